@@ -1,19 +1,18 @@
--- When windows close: those of an entry one after another, so that the first occurrence that fails is its first breach.
-use Rattle.std.proofs.Common.{◌≡◌, ℕ, ◌*◌, ◌/◌, ◌<◌, ◌≤◌, Bool, true, false, List, Some, None, refl, ap, sym, subst, ◌∙◌, inl, inr, arith, ltb-true, lt-ltb, le-ltb, eq-eqb, ne_eqb}
+-- When windows close: those of an entry one after another, so that the first occurrence that is wrong is its first breach.
+use Rattle.std.proofs.Common.{◌≡◌, ℕ, ◌+◌, ◌-◌, ◌*◌, ◌/◌, ◌%◌, ◌<◌, ◌≤◌, ◌==◌, ◌||◌, Bool, true, false, List, Some, None, refl, ap, ap₂, sym, subst, ◌∙◌, inl, inr, arith, ltb-true, lt-ltb, le-ltb, eq-eqb, ne_eqb}
 use Rattle.std.specs.Prelude.{if◌then◌else◌}
 use Rattle.std.proofs.Math.Nat.{div-mul-le_self, div-zero}
-use Rattle.std.proofs.lemmas.Bool.{cases_Bool, cases_eq, cases_lt, false≢true}
-use Rattle.std.proofs.lemmas.Nat.{le-div, mul-le}
+use Rattle.std.proofs.lemmas.Bool.{cases_eq, cases_lt, false≢true, or_right}
+use Rattle.std.proofs.lemmas.Nat.{div-add-mod', div-mul-add, le-div, mod-mul-add, mod_below, mul-le}
 use Rattle.us_flows.specs.declared.channels.Channel.{Channel}
 use Rattle.us_calendar.specs.Entries.{Entry}
-use Rattle.us_calendar.specs.Occurrences.{window_end, comes}
+use Rattle.us_calendar.specs.Occurrences.{ideal, window_end}
 use Rattle.us_lawful.specs.declared.place.Place.{Place}
 use Rattle.us_lawful.specs.Runs.{Run}
 use Rattle.us_lawful.specs.CalendarLines.{ChannelEntry, closes, closing_round, round_quarters, speaks_in}
 use Rattle.us_breaches.specs.Order.{goes_before}
 use Rattle.us_breaches.specs.Breaches.{IsFirstFailure}
-use Rattle.us_calendar_rules.specs.Marks.{numbers}
-use Rattle.us_calendar_rules.specs.Failures.{ClosingFails, IsAlike, IsFirstUnmarked}
+use Rattle.us_calendar_rules.specs.Failures.{ClosingFails, IsDue, IsFirstWrong, comes_in}
 
 -- Quotients don't fall,
 div-rises : (m n k : ℕ) → m ≤ n → m / k ≤ n / k
@@ -46,50 +45,30 @@ no_sooner channels a b later channel third = elim (cases_eq a.round b.round) [
   | inr other ↦ rw (ne_eqb a.round b.round other) (le-ltb a.round b.round later)
 ]
 
--- What is told of a window that closes, or doesn't.
+-- What is told of a window that doesn't close.
 pub is_open : (closed : Bool) (round : ℕ) → None ≡ (if closed then Some round else None) → closed ≡ false
 is_open true round is = absurd (cc is)
 is_open false round is = refl
 
-pub is_closed : (closed : Bool) (round told : ℕ) → Some told ≡ (if closed then Some round else None) →
-    (closed ≡ true) × (told ≡ round)
-is_closed true round told is = (refl, cc is)
-is_closed false round told is = absurd (cc is)
-
-module _ (channels : List Channel) (run : Run) (marks : List ℕ) (l : ChannelEntry) (number : ℕ)
-    (first : IsFirstUnmarked marks l number) where
-  -- The first that isn't marked once comes: else an earlier one would be marked as often.
-  unmarked_comes : number < numbers → IsAlike run marks l → comes l.entry (speaks_in run l.entry) number ≡ true
-  unmarked_comes few alike = elim (cases_Bool (comes l.entry (speaks_in run l.entry) number)) [
-    | inl come ↦ come
-    | inr out ↦
-        let other = alike number few out in
-        absurd (first.wrong (other.2 ∙ first.before other.0 other.1))
-  ]
-
-  no_earlier : (p : Place) (fails : ClosingFails run marks l p) → number ≤ fails.number
+module _ (channels : List Channel) (run : Run) (times : ℕ → ℕ) (l : ChannelEntry) (number : ℕ)
+    (first : IsFirstWrong (comes_in run l) times number) where
+  no_earlier : (p : Place) (fails : ClosingFails run l times p) → number ≤ fails.number
   no_earlier p fails = elim (cases_lt fails.number number) [
-    | inl sooner ↦ absurd (fails.wrong (first.before fails.number sooner))
+    | inl sooner ↦ absurd (fails.wrong (first.before fails.number sooner fails.come))
     | inr later ↦ later
   ]
 
-  -- where the first that isn't marked once is open, none that closes fails
-  pub none_closes : closes run l.entry number ≡ false → (p : Place) → ClosingFails run marks l p → ⊥
+  -- where the first wrong one is open, none that closes fails
+  pub none_closes : closes run l.entry number ≡ false → (p : Place) → ClosingFails run l times p → ⊥
   none_closes out p fails =
       false≢true (sym out ∙ closes_before run l.entry number fails.number (no_earlier p fails) fails.closes)
 
   -- and where it closes, it is the first breach
-  pub first_closes : (at : Place) → number < numbers → IsAlike run marks l → closes run l.entry number ≡ true →
+  pub first_closes : (at : Place) → closes run l.entry number ≡ true →
       at ≡ record { round = closing_round run.tables l.entry number; channel = l.channel.id; third = l.entry.id } →
-      IsFirstFailure channels (ClosingFails run marks l) (Some at)
-  first_closes at few alike closed is = (
-    record {
-      number = number;
-      come = unmarked_comes few alike;
-      closes = closed;
-      place = is;
-      wrong = first.wrong;
-    },
+      IsFirstFailure channels (ClosingFails run l times) (Some at)
+  first_closes at closed is = (
+    record { number = number; come = first.comes; closes = closed; place = is; wrong = first.wrong },
     λ p fails. no_sooner channels p at
         (subst (λ q. at.round ≤ q.round) (sym fails.place)
         (subst (λ q. q.round ≤ closing_round run.tables l.entry fails.number) (sym is)
@@ -98,3 +77,35 @@ module _ (channels : List Channel) (run : Run) (marks : List ℕ) (l : ChannelEn
         (ap (λ q. q.channel) fails.place ∙ ap (λ q. q.channel) (sym is))
         (ap (λ q. q.third) fails.place ∙ ap (λ q. q.third) (sym is)),
   )
+
+-- What comes next.
+
+module _ (run : Run) (l : ChannelEntry) (n : ℕ) (some : 1 ≤ l.entry.grants) where
+  -- where a number doesn't come, the first of the next interval is due
+  pub due_next : (n % l.entry.grants ≡ 0 → ⊥) → speaks_in run l.entry (ideal l.entry n) ≡ false →
+      IsDue (comes_in run l) n ((n / l.entry.grants + 1) * l.entry.grants)
+  due_next inner silent =
+      let g : ℕ = l.entry.grants in
+      let i : ℕ = n / g in
+      let whole : i * g + n % g ≡ n = div-add-mod' n g in
+      let rest : n % g < g = mod_below n g some in
+      let place : 0 < n % g = elim (cases_lt 0 (n % g)) [
+        | inl is ↦ is
+        | inr none ↦ absurd (inner (omega (arith, none)))
+      ] in
+      let next : (i + 1) * g ≡ i * g + g = omega arith in
+      record {
+        comes = or_right (speaks_in run l.entry (ideal l.entry ((i + 1) * g))) ((i + 1) * g % g == 0)
+            (eq-eqb ((i + 1) * g % g) 0 (ap (λ m. m % g) (omega arith) ∙ mod-mul-add (i + 1) g 0 some));
+        later = omega (arith, whole, rest, next);
+        none = λ m from low.
+            let k : ℕ = m - i * g in
+            let place_is : i * g + k ≡ m = omega (arith, from, whole) in
+            let inside : k < g = omega (arith, place_is, low, next) in
+            let inner : k ≡ 0 → ⊥ = λ is. omega (arith, is, place_is, from, whole, place) in
+            ap (λ n. comes_in run l n) (sym place_is)
+            ∙ ap₂ (λ q r. speaks_in run l.entry (l.entry.start + q * l.entry.interval) || (r == 0))
+            (div-mul-add i g k inside) (mod-mul-add i g k inside)
+            ∙ ap (λ b. b || (k == 0)) silent
+            ∙ ne_eqb k 0 inner;
+      }

@@ -1,285 +1,200 @@
--- How often a number stands in a list, by the places at which it stands.
-use Rattle.std.proofs.Common.{◌≡◌, ℕ, zero, suc, ◌+◌, ◌-◌, ◌<◌, ◌≤◌, ◌==◌, nat_le, Bool, true, false, cond, List, [], ◌∷◌, length, get_or, count_by, flat_map, refl, ap, ap₂, sym, ◌∙◌, inl, inr, arith, eq-eqb, ne_eqb, le-leb}
-use Rattle.std.specs.List.{AllByRecursion, range_with_len}
-use Rattle.std.specs.List.Sorted.{IsNonDecreasing}
-use Rattle.std.proofs.lemmas.Bool.{cases_eq, cases_lt, lt-leb}
-use Rattle.std.proofs.lemmas.List.FromFn.{get_or-range_with_len, length-range_with_len}
-use Rattle.std.proofs.lemmas.List.Sums.{sum_by-append, sum_by-cons}
-use Rattle.us_calendar_rules.specs.Marks.{IsPartedAt}
+-- Lists by places, how often a number stands in one, and a walk through numbers that rise.
+use Rattle.std.proofs.Common.{◌≡◌, ℕ, suc, ◌+◌, ◌<◌, ◌≤◌, ◌==◌, nat_le, Bool, true, false, cond, List, [], ◌∷◌, length, get_or, take, drop, refl, ap, sym, ◌∙◌, inl, inr, arith, eq-eqb, ne_eqb, le-leb, length-drop, ltb, ltb-false, ltb-true, get_or-drop, zero, Some, None, map, set, ap₂}
+use Rattle.std.specs.List.{All, AllByRecursion, IsDistinct}
+use Rattle.std.specs.List.Sorted.{IsNonDecreasing, IsPartitionPoint}
+use Rattle.std.specs.Prelude.{if◌then◌else◌}
+use Rattle.std.proofs.lemmas.Bool.{cases_eq, cases_lt, false≢true, lt-leb}
+use Rattle.std.proofs.lemmas.List.{length-take-le, get_or-take}
+use Rattle.std.proofs.lemmas.List.Sums.{sum_by_more, sum_by-cons, sum_by-drop_more, sum_by-take-drop}
+use Rattle.std.proofs.lemmas.Map.Keys.{IsDistinct-head, IsDistinct-tail}
+use Rattle.us_calendar_rules.specs.Failures.{IsDue, IsFirstWrong, times_in}
 
-abbrev pub times_in : ℕ → List ℕ → ℕ
-times_in v xs = count_by (λ x. x == v) xs
+-- what is given where a test passes
+pub if_some : {X : Type 0} (b : Bool) (x y : X) → Some y ≡ (if b then Some x else None) → (b ≡ true) × (x ≡ y)
+if_some true x y is = (refl, cc is)
+if_some false x y is = absurd (cc is)
 
-counted-yes : (v x : ℕ) (xs : List ℕ) → x ≡ v → times_in v (x ∷ xs) ≡ 1 + times_in v xs
-counted-yes v x xs same =
-    sum_by-cons (λ y. cond (y == v) 1 0) x xs
-    ∙ ap (λ b. cond {A = ℕ} b 1 0 + times_in v xs) (eq-eqb x v same)
+-- what two functions give alike,
+pub map_same : {X Y : Type 0} (f g : X → Y) (xs : List X) → All (λ x. f x ≡ g x) xs → map f xs ≡ map g xs
+map_same f g [] same = refl
+map_same f g (x ∷ xs) same =
+    ap₂ (λ y ys. y ∷ ys) (same 0 x (omega arith))
+    (map_same f g xs (λ k d inside. same (suc k) d (omega (arith, inside))))
 
-counted-no : (v x : ℕ) (xs : List ℕ) → (x ≡ v → ⊥) → times_in v (x ∷ xs) ≡ times_in v xs
-counted-no v x xs apart =
-    sum_by-cons (λ y. cond (y == v) 1 0) x xs
-    ∙ ap (λ b. cond {A = ℕ} b 1 0 + times_in v xs) (ne_eqb x v apart) ∙ omega arith
+-- but for one place
+pub map_but_one : {X Y : Type 0} (f g : X → Y) (xs : List X) (i : ℕ) (d : X) → i < length xs →
+    ((k : ℕ) (e : X) → k < length xs → (k ≡ i → ⊥) → f (get_or xs k e) ≡ g (get_or xs k e)) →
+    set (map f xs) i (g (get_or xs i d)) ≡ map g xs
+map_but_one f g [] i d inside same = absurd (omega (arith, inside))
+map_but_one f g (x ∷ xs) zero d inside same =
+    ap (λ ys. g x ∷ ys) (map_same f g xs (λ k e within. same (suc k) e (omega (arith, within)) (λ is. omega (arith, is))))
+map_but_one f g (x ∷ xs) (suc i) d inside same =
+    ap₂ (λ y ys. y ∷ ys) (same 0 x (omega arith) (λ is. omega (arith, is)))
+    (map_but_one f g xs i d (omega (arith, inside))
+    (λ k e within apart. same (suc k) e (omega (arith, within)) (λ is. apart (omega (arith, is)))))
 
--- the places from one on, up to another, are those of the number
-record StandsAt (v : ℕ) (xs : List ℕ) (from to : ℕ) : Type 0 where
-  order : from ≤ to
-  inside : to ≤ length xs
-  here : (k : ℕ) → from ≤ k → k < to → get_or xs k 0 ≡ v
-  before : (k : ℕ) → k < from → get_or xs k 0 ≡ v → ⊥
-  behind : (k : ℕ) → to ≤ k → k < length xs → get_or xs k 0 ≡ v → ⊥
+-- Where keys are distinct, a key has one place.
+abbrev same_by : {X : Type 0} → (X → ℕ) → X → X → Bool
+same_by f x y = f x == f y
 
-counted : (v : ℕ) (xs : List ℕ) (from to : ℕ) → StandsAt v xs from to → from + times_in v xs ≡ to
-counted v [] from to at = omega (arith, at.order, at.inside)
-counted v (x ∷ xs) zero zero at =
-    omega (
-      arith,
-      counted-no v x xs (at.behind 0 (omega arith) (omega arith)),
-      counted v xs 0 0 (record {
-        order = omega arith;
-        inside = omega arith;
-        here = λ k low high. absurd (omega (arith, high));
-        before = λ k low. absurd (omega (arith, low));
-        behind = λ k low inside. at.behind (suc k) (omega arith) (omega (arith, inside));
-      }),
-    )
-counted v (x ∷ xs) zero (suc to) at =
-    omega (
-      arith,
-      counted-yes v x xs (at.here 0 (omega arith) (omega arith)),
-      counted v xs 0 to (record {
-        order = omega arith;
-        inside = omega (arith, at.inside);
-        here = λ k low high. at.here (suc k) (omega arith) (omega (arith, high));
-        before = λ k low. absurd (omega (arith, low));
-        behind = λ k low inside. at.behind (suc k) (omega (arith, low)) (omega (arith, inside));
-      }),
-    )
-counted v (x ∷ xs) (suc from) zero at = absurd (omega (arith, at.order))
-counted v (x ∷ xs) (suc from) (suc to) at =
-    omega (
-      arith,
-      counted-no v x xs (at.before 0 (omega arith)),
-      counted v xs from to (record {
-        order = omega (arith, at.order);
-        inside = omega (arith, at.inside);
-        here = λ k low high. at.here (suc k) (omega (arith, low)) (omega (arith, high));
-        before = λ k low. at.before (suc k) (omega (arith, low));
-        behind = λ k low inside. at.behind (suc k) (omega (arith, low)) (omega (arith, inside));
-      }),
-    )
+key_apart : {X : Type 0} (f : X → ℕ) (x : X) (xs : List X) (k : ℕ) (d : X) →
+    AllByRecursion (λ y. same_by f x y ≡ false) xs → k < length xs → f x ≡ f (get_or xs k d) → ⊥
+key_apart f x [] k d apart inside is = omega (arith, inside)
+key_apart f x (y ∷ xs) zero d apart inside is = false≢true (sym apart.0 ∙ eq-eqb (f x) (f y) is)
+key_apart f x (y ∷ xs) (suc k) d apart inside is = key_apart f x xs k d apart.1 (omega (arith, inside)) is
 
--- Numbers one after another: each of them stands there once,
-pub range_once : (a count v : ℕ) → a ≤ v → v < a + count → times_in v (range_with_len a count) ≡ 1
-range_once a count v low high =
-    let place : a + (v - a) ≡ v = omega (arith, low) in
-    let once = counted v (range_with_len a count) (v - a) (v - a + 1) (record {
-      order = omega arith;
-      inside = omega (arith, length-range_with_len a count, low, high);
-      here = λ k from to.
-          let same : a + k ≡ v = omega (arith, place, from, to) in
-          get_or-range_with_len a count k 0 (omega (arith, low, high, to)) ∙ same;
-      before = λ k below is.
-          omega (arith, get_or-range_with_len a count k 0 (omega (arith, low, high, below)), is, below, place);
-      behind = λ k past within is.
-          let inside : k < count = omega (arith, within, length-range_with_len a count) in
-          omega (arith, get_or-range_with_len a count k 0 inside, is, past, place);
-    }) in
-    omega (arith, once)
+pub one_place : {X : Type 0} (f : X → ℕ) (xs : List X) (i j : ℕ) (d : X) → IsDistinct (same_by f) xs → i < length xs →
+    j < length xs → f (get_or xs i d) ≡ f (get_or xs j d) → i ≡ j
+one_place f [] i j d distinct in_i in_j same = absurd (omega (arith, in_i))
+one_place f (x ∷ xs) zero zero d distinct in_i in_j same = refl
+one_place f (x ∷ xs) zero (suc j) d distinct in_i in_j same =
+    absurd (key_apart f x xs j d (IsDistinct-head (same_by f) x xs distinct) (omega (arith, in_j)) same)
+one_place f (x ∷ xs) (suc i) zero d distinct in_i in_j same =
+    absurd (key_apart f x xs i d (IsDistinct-head (same_by f) x xs distinct) (omega (arith, in_i)) (sym same))
+one_place f (x ∷ xs) (suc i) (suc j) d distinct in_i in_j same =
+    ap suc (one_place f xs i j d (IsDistinct-tail (same_by f) x xs distinct) (omega (arith, in_i))
+    (omega (arith, in_j)) same)
 
--- and no other one
-pub range_none : (a count v : ℕ) → (a ≤ v → v < a + count → ⊥) → times_in v (range_with_len a count) ≡ 0
-range_none a count v out =
-    let never = counted v (range_with_len a count) 0 0 (record {
-      order = omega arith;
-      inside = omega arith;
-      here = λ k from to. absurd (omega (arith, to));
-      before = λ k below is. absurd (omega (arith, below));
-      behind = λ k past within is.
-          let inside : k < count = omega (arith, within, length-range_with_len a count) in
-          let at = get_or-range_with_len a count k 0 inside in
-          out (omega (arith, at, is)) (omega (arith, at, is, inside));
-    }) in
-    omega (arith, never)
+-- Numbers.
 
--- What items give, each a list.
-module _ {X : Type 0} (p : ℕ → Bool) (f : X → List ℕ) where
-  one_given : (x : X) (xs : List X) →
-      count_by p (flat_map f (x ∷ xs)) ≡ count_by p (f x) + count_by p (flat_map f xs)
-  one_given x xs = sum_by-append (λ m. cond (p m) 1 0) (f x) (flat_map f xs)
+abbrev one : ℕ → ℕ → ℕ
+one n m = cond (m == n) 1 0
 
-  -- where the list of an item has one that passes just where the item passes, as many pass as items do
-  pub given_counted : (q : X → Bool) (xs : List X) → AllByRecursion (λ x. count_by p (f x) ≡ cond (q x) 1 0) xs →
-      count_by p (flat_map f xs) ≡ count_by q xs
-  given_counted q [] same = refl
-  given_counted q (x ∷ xs) same =
-      one_given x xs
-      ∙ ap₂ (λ m n. m + n) same.0 (given_counted q xs same.1)
-      ∙ sym (sum_by-cons (λ x. cond (q x) 1 0) x xs)
+one_yes : (n m : ℕ) → m ≡ n → one n m ≡ 1
+one_yes n m is = ap (λ b. cond {A = ℕ} b 1 0) (eq-eqb m n is)
 
--- and where as many in each list pass one test as another, so they do in all
-pub given_alike : {X : Type 0} (p q : ℕ → Bool) (f : X → List ℕ) (xs : List X) →
-    AllByRecursion (λ x. count_by p (f x) ≡ count_by q (f x)) xs →
-    count_by p (flat_map f xs) ≡ count_by q (flat_map f xs)
-given_alike p q f [] same = refl
-given_alike p q f (x ∷ xs) same =
-    one_given p f x xs ∙ ap₂ (λ m n. m + n) same.0 (given_alike p q f xs same.1) ∙ sym (one_given q f x xs)
+one_no : (n m : ℕ) → (m ≡ n → ⊥) → one n m ≡ 0
+one_no n m other = ap (λ b. cond {A = ℕ} b 1 0) (ne_eqb m n other)
 
-one_there : (v : ℕ) (xs : List ℕ) (k : ℕ) → k < length xs → get_or xs k 0 ≡ v → 1 ≤ times_in v xs
-one_there v [] k inside is = absurd (omega (arith, inside))
-one_there v (x ∷ xs) zero inside is = omega (arith, counted-yes v x xs is)
-one_there v (x ∷ xs) (suc k) inside is =
-    let there = one_there v xs k (omega (arith, inside)) is in
-    elim (cases_eq x v) [
-      | inl same ↦ omega (arith, counted-yes v x xs same, there)
-      | inr apart ↦ omega (arith, counted-no v x xs apart, there)
-    ]
+-- a number that no place has isn't there
+none_there : (xs : List ℕ) (n : ℕ) → ((k : ℕ) → k < length xs → get_or xs k 0 ≡ n → ⊥) → times_in xs n ≡ 0
+none_there [] n none = refl
+none_there (x ∷ xs) n none =
+    let rest = none_there xs n (λ k inside. none (suc k) (omega (arith, inside))) in
+    omega (arith, sum_by-cons (one n) x xs, one_no n x (none 0 (omega arith)), rest)
 
--- at two places it stands twice at least
-pub two_there : (v : ℕ) (xs : List ℕ) (j k : ℕ) → j < k → k < length xs → get_or xs j 0 ≡ v → get_or xs k 0 ≡ v →
-    2 ≤ times_in v xs
-two_there v [] j k order inside one other = absurd (omega (arith, inside))
-two_there v (x ∷ xs) j zero order inside one other = absurd (omega (arith, order))
-two_there v (x ∷ xs) zero (suc k) order inside one other =
-    omega (arith, counted-yes v x xs one, one_there v xs k (omega (arith, inside)) other)
-two_there v (x ∷ xs) (suc j) (suc k) order inside one other =
-    let there = two_there v xs j k (omega (arith, order)) (omega (arith, inside)) one other in
-    elim (cases_eq x v) [
-      | inl same ↦ omega (arith, counted-yes v x xs same, there)
-      | inr apart ↦ omega (arith, counted-no v x xs apart, there)
-    ]
-
--- In numbers that rise.
+-- In a walk the numbers up to one are looked at: each that comes stands once in the first places, and none that is more.
+pub record IsWalked (come : ℕ → Bool) (xs : List ℕ) (i next : ℕ) : Type 0 where
+  pub once : (m : ℕ) → m < next → come m ≡ true → times_in (take i xs) m ≡ 1
+  pub none : (m : ℕ) → next ≤ m → times_in (take i xs) m ≡ 0
+  pub later : i < length xs → next ≤ get_or xs i 0 + 1
 
 module _ (xs : List ℕ) (rising : IsNonDecreasing xs) where
-  up : (j k : ℕ) → j ≤ k → k < length xs → get_or xs j 0 ≤ get_or xs k 0
-  up j k order inside = rising j k 0 order inside
+  -- Of the places from one on, where they are more, none has a number.
+  later_none : (i n : ℕ) → (i < length xs → n < get_or xs i 0) → times_in (drop i xs) n ≡ 0
+  later_none i n less = none_there (drop i xs) n (λ k inside is.
+      let within : i + k < length xs = omega (arith, inside, length-drop i xs) in
+      let up = rising i (i + k) 0 (omega arith) within in
+      omega (arith, up, less (omega (arith, within)), get_or-drop i xs k 0, is))
 
-  -- a number stands once at most just where that behind its first place is another
-  pub at_most_once : (v at : ℕ) → IsPartedAt xs v at → (at + 1 < length xs → get_or xs (at + 1) 0 ≡ v → ⊥) →
-      nat_le (times_in v xs) 1 ≡ true
-  at_most_once v at parted other = le-leb (times_in v xs) 1 (elim (cases_lt at (length xs)) [
-    | inl inside ↦ elim (cases_eq (get_or xs at 0) v) [
-      | inl here ↦
-          let once = counted v xs at (at + 1) (record {
-            order = omega arith;
-            inside = omega (arith, inside);
-            here = λ k low high.
-                let same : at ≡ k = omega (arith, low, high) in
-                ap (λ i. get_or xs i 0) (sym same) ∙ here;
-            before = λ k low is. omega (arith, parted.below k low, is);
-            behind = λ k low within is. elim (cases_lt (at + 1) (length xs)) [
-              | inl more ↦
-                  let least = parted.above (at + 1) (omega arith) more in
-                  let most = up (at + 1) k low within in
-                  other more (omega (arith, least, most, is))
-              | inr last ↦ omega (arith, low, within, last)
-            ];
-          }) in
-          omega (arith, once)
-      | inr none ↦
-          let never = counted v xs at at (record {
-            order = omega arith;
-            inside = omega (arith, inside);
-            here = λ k low high. absurd (omega (arith, low, high));
-            before = λ k low is. omega (arith, parted.below k low, is);
-            behind = λ k low within is.
-                let least = parted.above at (omega arith) inside in
-                let most = up at k low within in
-                none (omega (arith, least, most, is));
-          }) in
-          omega (arith, never)
-    ]
-    | inr past ↦
-        let never = counted v xs at at (record {
-          order = omega arith;
-          inside = parted.inside;
-          here = λ k low high. absurd (omega (arith, low, high));
-          before = λ k low is. omega (arith, parted.below k low, is);
-          behind = λ k low within is. omega (arith, low, within, past);
-        }) in
-        omega (arith, never)
-  ])
+  -- A number stands there once at most just where that behind its first place is another.
+  module _ (n at : ℕ) (inside : at ≤ length xs)
+      (point : IsPartitionPoint (λ m. ltb m n ≡ true) (λ m. ltb m n ≡ false) xs at) where
+    above : (k : ℕ) → at ≤ k → k < length xs → n ≤ get_or xs k 0
+    above k high within = ltb-false (get_or xs k 0) n (point.1 k 0 high within)
 
-  pub more_than_once : (v at : ℕ) → IsPartedAt xs v at → at + 1 < length xs → get_or xs (at + 1) 0 ≡ v →
-      nat_le (times_in v xs) 1 ≡ false
-  more_than_once v at parted more second =
-      let least = parted.above at (omega arith) (omega (arith, more)) in
-      let most = up at (at + 1) (omega arith) more in
-      let first : get_or xs at 0 ≡ v = omega (arith, least, most, second) in
-      let twice = two_there v xs at (at + 1) (omega arith) more first second in
-      lt-leb (times_in v xs) 1 (omega (arith, twice))
+    front : times_in (take at xs) n ≡ 0
+    front = none_there (take at xs) n (λ k within is.
+        let place : k < at = omega (arith, within, length-take-le at xs inside) in
+        let below = ltb-true (get_or xs k 0) n (point.0 k 0 (omega arith) place) in
+        omega (arith, below, sym (get_or-take at xs k 0 place) ∙ is))
 
-  -- Numbers one after another, from the place on at which the first of them stands or would stand.
-  module _ (first from count : ℕ) (parted : IsPartedAt xs first from) (room : from + count ≤ length xs)
-      (walked : (k : ℕ) → k < count → get_or xs (from + k) 0 ≡ first + k) where
-    -- one of these stands once, where what is behind them is more
-    walked_once : (m : ℕ) → m < count → (from + count < length xs → first + m < get_or xs (from + count) 0) →
-        times_in (first + m) xs ≡ 1
-    walked_once m below more =
-        let once = counted (first + m) xs (from + m) (from + m + 1) (record {
-          order = omega arith;
-          inside = omega (arith, room, below);
-          here = λ k low high.
-              let same : from + m ≡ k = omega (arith, low, high) in
-              ap (λ i. get_or xs i 0) (sym same) ∙ walked m below;
-          before = λ k low is. elim (cases_lt k from) [
-            | inl front ↦ omega (arith, parted.below k front, is)
-            | inr behind ↦
-                let same : from + (k - from) ≡ k = omega (arith, behind) in
-                let there = ap (λ i. get_or xs i 0) (sym same) ∙ walked (k - from) (omega (arith, low, below)) in
-                omega (arith, there, is, low, behind)
-          ];
-          behind = λ k low within is. elim (cases_lt k (from + count)) [
-            | inl front ↦
-                let same : from + (k - from) ≡ k = omega (arith, low) in
-                let there = ap (λ i. get_or xs i 0) (sym same) ∙ walked (k - from) (omega (arith, front, low)) in
-                omega (arith, there, is, low)
-            | inr past ↦
-                let most = up (from + count) k past within in
-                let least = more (omega (arith, past, within)) in
-                omega (arith, most, least, is)
-          ];
-        }) in
-        omega (arith, once)
+    pub at_most_once : (at + 1 < length xs → get_or xs (at + 1) 0 ≡ n → ⊥) → nat_le (times_in xs n) 1 ≡ true
+    at_most_once other = le-leb (times_in xs n) 1 (elim (cases_lt at (length xs)) [
+      | inl more ↦
+          let rest : times_in (drop (at + 1) xs) n ≡ 0 = later_none (at + 1) n (λ next.
+          elim (cases_lt n (get_or xs (at + 1) 0)) [
+            | inl less ↦ less
+            | inr least ↦ absurd (other next (omega (arith, least, above (at + 1) (omega arith) next)))
+          ]) in
+          let whole : times_in xs n ≡ one n (get_or xs at 0) =
+          omega (arith, sum_by-take-drop (one n) xs at, front, sum_by-drop_more (one n) xs at 0 more, rest) in
+          elim (cases_eq (get_or xs at 0) n) [
+            | inl is ↦ omega (arith, whole, one_yes n (get_or xs at 0) is)
+            | inr apart ↦ omega (arith, whole, one_no n (get_or xs at 0) apart)
+          ]
+      | inr past ↦
+          let rest = later_none at n (λ within. absurd (omega (arith, within, past))) in
+          omega (arith, sum_by-take-drop (one n) xs at, front, rest)
+    ])
 
-    -- where the next is more, or there is none, the next number doesn't stand there
-    pub next_missing : (from + count < length xs → first + count < get_or xs (from + count) 0) →
-        times_in (first + count) xs ≡ 0
-    next_missing more =
-        let never = counted (first + count) xs (from + count) (from + count) (record {
-          order = omega arith;
-          inside = room;
-          here = λ k low high. absurd (omega (arith, low, high));
-          before = λ k low is. elim (cases_lt k from) [
-            | inl front ↦ omega (arith, parted.below k front, is)
-            | inr behind ↦
-                let same : from + (k - from) ≡ k = omega (arith, behind) in
-                let there = ap (λ i. get_or xs i 0) (sym same) ∙ walked (k - from) (omega (arith, low, behind)) in
-                omega (arith, there, is, low, behind)
-          ];
-          behind = λ k low within is.
-              let most = up (from + count) k low within in
-              let least = more (omega (arith, low, within)) in
-              omega (arith, most, least, is);
-        }) in
-        omega (arith, never)
+    pub more_than_once : at + 1 < length xs → get_or xs (at + 1) 0 ≡ n → nat_le (times_in xs n) 1 ≡ false
+    more_than_once more second =
+        let up = rising at (at + 1) 0 (omega arith) more in
+        let first : get_or xs at 0 ≡ n = omega (arith, up, above at (omega arith) (omega (arith, more)), second) in
+        let parts = sum_by-take-drop (one n) xs at in
+        let here = sum_by-drop_more (one n) xs at 0 (omega (arith, more)) in
+        let there = sum_by-drop_more (one n) xs (at + 1) 0 more in
+        let ones = one_yes n (get_or xs at 0) first in
+        lt-leb (times_in xs n) 1 (omega (arith, parts, here, there, ones, one_yes n (get_or xs (at + 1) 0) second))
 
-    pub all_once : (from + count < length xs → first + count < get_or xs (from + count) 0) → (m : ℕ) → m < count →
-        times_in (first + m) xs ≡ 1
-    all_once more m below = walked_once m below (λ inside. let least = more inside in omega (arith, least, below))
+  module _ (come : ℕ → Bool) where
+    pub walk_begun : IsWalked come xs 0 0
+    walk_begun = record {
+      once = λ m low. absurd (omega (arith, low));
+      none = λ m low. refl;
+      later = λ inside. omega arith;
+    }
 
-    -- where the next is less, the last one stands twice, and those before it once
-    pub last_twice : from + count < length xs → get_or xs (from + count) 0 < first + count →
-        (1 ≤ count) × (2 ≤ times_in (first + (count - 1)) xs)
-        × ((m : ℕ) → m < count - 1 → times_in (first + m) xs ≡ 1)
-    last_twice inside less =
-        let least = parted.above (from + count) (omega arith) inside in
-        let some : 1 ≤ count = omega (arith, least, less) in
-        let place : from + (count - 1) + 1 ≡ from + count = omega (arith, some) in
-        let last = walked (count - 1) (omega (arith, some)) in
-        let most = up (from + (count - 1)) (from + count) (omega (arith, some)) inside in
-        let same : get_or xs (from + count) 0 ≡ first + (count - 1) = omega (arith, last, most, less, some) in (
-          some,
-          two_there (first + (count - 1)) xs (from + (count - 1)) (from + count) (omega (arith, some)) inside last same,
-          λ m below. walked_once m (omega (arith, below)) (λ _. omega (arith, same, below)),
-        )
+    module _ (i next : ℕ) (walked : IsWalked come xs i next) where
+      -- all that comes before what is due is below
+      before_due : (due m : ℕ) → IsDue come next due → m < due → come m ≡ true → m < next
+      before_due due m is low comes = elim (cases_lt m next) [
+        | inl below ↦ below
+        | inr from ↦ absurd (false≢true (sym (is.none m from low) ∙ comes))
+      ]
+
+      -- what is walked stands once among all, where it is less than the next
+      still_once : (m : ℕ) → m < next → come m ≡ true → (i < length xs → m < get_or xs i 0) → times_in xs m ≡ 1
+      still_once m low comes less =
+          omega (arith, sum_by-take-drop (one m) xs i, walked.once m low comes, later_none i m less)
+
+      still_none : (m : ℕ) → next ≤ m → (i < length xs → m < get_or xs i 0) → times_in xs m ≡ 0
+      still_none m from less = omega (arith, sum_by-take-drop (one m) xs i, walked.none m from, later_none i m less)
+
+      -- what is due isn't there, where the next is more or there is none,
+      pub walk_missing : (due : ℕ) → IsDue come next due → (i < length xs → due < get_or xs i 0) →
+          IsFirstWrong come (times_in xs) due
+      walk_missing due is less = record {
+        comes = is.comes;
+        wrong = λ once. omega (arith, once, still_none due is.later less);
+        before = λ m low comes.
+            still_once m (before_due due m is low comes) comes
+            (λ inside. let more = less inside in omega (arith, low, more));
+      }
+
+      -- and a number that is less than the next is there twice
+      pub walk_twice : i < length xs → get_or xs i 0 < next → come (get_or xs i 0) ≡ true →
+          IsFirstWrong come (times_in xs) (get_or xs i 0)
+      walk_twice inside less comes =
+          let n = get_or xs i 0 in record {
+            comes = comes;
+            wrong = λ once.
+                let parts = sum_by-take-drop (one n) xs i in
+                let here = sum_by-drop_more (one n) xs i 0 inside in
+                omega (arith, once, parts, walked.once n less comes, here, one_yes n n refl);
+            before = λ m low here. still_once m (omega (arith, low, less)) here (λ _. low);
+          }
+
+      -- A number more, before which none comes.
+      pub walk_more : i < length xs → next ≤ get_or xs i 0 →
+          ((m : ℕ) → next ≤ m → m < get_or xs i 0 → come m ≡ false) → IsWalked come xs (i + 1) (get_or xs i 0 + 1)
+      walk_more inside from clear =
+          let n = get_or xs i 0 in record {
+            once = λ m low comes.
+                let more = sum_by_more (one m) xs i 0 inside in
+                elim (cases_lt m next) [
+                  | inl below ↦
+                      let other = one_no m n (λ is. omega (arith, is, below, from)) in
+                      omega (arith, more, walked.once m below comes, other)
+                  | inr past ↦ elim (cases_eq n m) [
+                    | inl is ↦ omega (arith, more, walked.none m past, one_yes m n is)
+                    | inr apart ↦
+                        absurd (false≢true (sym (clear m past (omega (arith, low, apart))) ∙ comes))
+                  ]
+                ];
+            none = λ m low.
+                let other = one_no m n (λ is. omega (arith, is, low)) in
+                omega (arith, sum_by_more (one m) xs i 0 inside, walked.none m (omega (arith, low, from)), other);
+            later = λ within. let up = rising i (i + 1) 0 (omega arith) within in omega (arith, up);
+          }

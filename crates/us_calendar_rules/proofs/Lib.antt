@@ -1,11 +1,5 @@
-pub mod FoundLemmas
 pub mod ListedLemmas
-pub mod RunLemmas
 pub mod CountLemmas
-pub mod NamingLemmas
-pub mod MarkLemmas
 pub mod ClosingLemmas
-pub mod TimesLemmas
-pub mod ToldLemmas
-pub mod ClosingRuleLemmas
-pub mod ToldRuleLemmas
+pub mod TakingLemmas
+pub mod RuleLemmas

@@ -1,26 +1,36 @@
--- The entries of all channels, and which of them a word and an id call.
-use Rattle.std.proofs.Common.{◌≡◌, ℕ, ◌+◌, ◌*◌, ◌<◌, ◌==◌, Bool, true, false, List, ◌++◌, length, map, flat_map, get_or, drop, append_assoc, add-one, drop-cons, slice_get, Option, Some, None, Contains, option_map, refl, ap, ap₂, sym, ◌∙◌, arith, eq-eqb, eqb-true}
-use Rattle.std.specs.List.{AllByRecursion, find}
-use Rattle.std.proofs.lemmas.Bool.{and_from, and_parts, false_from_ne_true}
+-- The entries of all channels: which of them a word and an id call, that their keys differ, and when their flows are active.
+use Rattle.std.proofs.Common.{◌≡◌, ℕ, ◌+◌, ◌*◌, ◌<◌, ◌≤◌, ◌==◌, nat_lt, ◌&&◌, ◌||◌, Bool, true, false, List, [], ◌∷◌, ◌++◌, length, map, flat_map, get_or, drop, append_assoc, add-one, drop-cons, slice_get, Option, Some, None, Contains, option_map, refl, ap, ap₂, sym, ◌∙◌, inl, inr, arith, eq-eqb, eqb-true, ltb, ltb-false, ltb-true, ne_eqb, take}
+use Rattle.std.specs.List.{All, AllByRecursion, IsDistinct}
+use Rattle.std.specs.List.Sorted.{IsNonDecreasingBy, IsPartitionPoint}
+use Rattle.std.proofs.lemmas.Bool.{and_from, and_parts, cases_lt, false_from_ne_true}
+use Rattle.std.proofs.lemmas.Bool.Decides.{nat_tests}
+use Rattle.std.proofs.lemmas.List.Concat.{flat_map-cons}
 use Rattle.std.proofs.lemmas.List.Elements.{All-contains, All-from_recursion}
 use Rattle.std.proofs.lemmas.List.Sorted.{Contains-permutation, IsPermutation-sym}
-use Rattle.us_flows.specs.declared.channels.Channel.{Channel}
-use Rattle.us_flows.specs.Tables.{Tables, FlowTable}
+use Rattle.std.proofs.lemmas.Nat.{same_from_place}
 use Rattle.us_flows.specs.Clusters.{Silent, words_of}
-use Rattle.us_flows.specs.Lawful.{AreTables, IsChannel}
+use Rattle.us_flows.specs.Lawful.{AreApart, AreTables, IsChannel}
+use Rattle.us_flows.specs.Tables.{Tables, FlowTable}
+use Rattle.us_flows.specs.declared.channels.Channel.{Channel}
+use Rattle.us_requests.specs.Traces.{TraceAsks, cuts_in}
+use Rattle.us_calendar.proofs.EntryLaws.{entries_are_apart, entries_are_lawful, entries_have_words}
+use Rattle.us_calendar.proofs.OnceLaws.{IsOrdered}
+use Rattle.us_calendar.proofs.SortedLemmas.{entries_ordered}
+use Rattle.us_calendar.specs.Activity.{active_in, activity}
+use Rattle.us_calendar.specs.Entries.{Entry, IsEntry, entries, goes_before, rank_of}
+use Rattle.us_calendar.specs.Laws.{IsLawfulEntry}
 use Rattle.us_calendar.specs.declared.kinds.Kind.{Kind}
 use Rattle.us_calendar.specs.declared.kinds.Kind.TheVariants as kinds
 use Rattle.us_calendar.specs.declared.silences.Silence.{Silence}
-use Rattle.us_calendar.specs.Entries.{Entry, IsEntry, rank_of, entries}
-use Rattle.us_calendar.specs.Laws.{IsLawfulEntry}
-use Rattle.us_calendar.proofs.EntryLaws.{entries_are_apart, entries_are_lawful, entries_have_words}
+use Rattle.us_activity.specs.Activities.{AreMarksOf}
+use Rattle.us_activity.specs.Marks.{Marks, is_active}
+use Rattle.us_output.proofs.PartLemmas.{all_append, all_contained, all_flat, all_mapped}
 use Rattle.us_output.specs.declared.rows.EntryWord.{EntryWord}
 use Rattle.us_output.specs.declared.rows.EntryWord.TheVariants as words
-use Rattle.us_output.proofs.PartLemmas.{all_contained, all_flat, all_mapped}
+use Rattle.us_lawful.proofs.NameLemmas.{no_request, same_kind, word_is}
 use Rattle.us_lawful.specs.CalendarLines.{ChannelEntry, channel_entries, is_word}
-use Rattle.us_lawful.proofs.NameLemmas.{same_kind}
-use Rattle.us_calendar_rules.specs.Listed.{AreListed, is_called, key_of, rank_called}
-use Rattle.us_calendar_rules.proofs.FoundLemmas.{find_one, find_none}
+use Rattle.us_calendar_rules.specs.Listed.{AreListed, is_called, key_of, rank_called, same_key}
+use Rattle.us_calendar_rules.proofs.CountLemmas.{one_place}
 
 -- Entries of a list.
 
@@ -104,36 +114,12 @@ same_rank None rank = false
 same_rank (Some called) rank = called == rank
 
 word_ranked : (kind : Kind) (word : EntryWord) → is_word kind word ≡ same_rank (rank_called word) (rank_of kind)
-word_ranked kinds.Unsolicited words.Unsolicited = refl
-word_ranked kinds.Unsolicited words.Activity = refl
-word_ranked kinds.Unsolicited words.RealTimePoll = refl
-word_ranked kinds.Unsolicited words.NonRealTimePoll = refl
-word_ranked kinds.Unsolicited words.Station = refl
-word_ranked kinds.Unsolicited words.Requested = refl
-word_ranked kinds.Activity words.Unsolicited = refl
-word_ranked kinds.Activity words.Activity = refl
-word_ranked kinds.Activity words.RealTimePoll = refl
-word_ranked kinds.Activity words.NonRealTimePoll = refl
-word_ranked kinds.Activity words.Station = refl
-word_ranked kinds.Activity words.Requested = refl
-word_ranked kinds.RealTimePoll words.Unsolicited = refl
-word_ranked kinds.RealTimePoll words.Activity = refl
-word_ranked kinds.RealTimePoll words.RealTimePoll = refl
-word_ranked kinds.RealTimePoll words.NonRealTimePoll = refl
-word_ranked kinds.RealTimePoll words.Station = refl
-word_ranked kinds.RealTimePoll words.Requested = refl
-word_ranked kinds.NonRealTimePoll words.Unsolicited = refl
-word_ranked kinds.NonRealTimePoll words.Activity = refl
-word_ranked kinds.NonRealTimePoll words.RealTimePoll = refl
-word_ranked kinds.NonRealTimePoll words.NonRealTimePoll = refl
-word_ranked kinds.NonRealTimePoll words.Station = refl
-word_ranked kinds.NonRealTimePoll words.Requested = refl
-word_ranked kinds.Station words.Unsolicited = refl
-word_ranked kinds.Station words.Activity = refl
-word_ranked kinds.Station words.RealTimePoll = refl
-word_ranked kinds.Station words.NonRealTimePoll = refl
-word_ranked kinds.Station words.Station = refl
-word_ranked kinds.Station words.Requested = refl
+word_ranked kind words.Unsolicited = word_is kind kinds.Unsolicited
+word_ranked kind words.Activity = word_is kind kinds.Activity
+word_ranked kind words.RealTimePoll = word_is kind kinds.RealTimePoll
+word_ranked kind words.NonRealTimePoll = word_is kind kinds.NonRealTimePoll
+word_ranked kind words.Station = word_is kind kinds.Station
+word_ranked kind words.Requested = no_request kind
 
 pub few_ranks : (kind : Kind) → rank_of kind < 5
 few_ranks kinds.Unsolicited = omega arith
@@ -195,29 +181,40 @@ key_called word id rank l ranked is =
     ranks : (r : ℕ) → r ≡ rank_of l.entry.kind → same_rank (Some r) (rank_of l.entry.kind) ≡ true
     ranks r same = eq-eqb r (rank_of l.entry.kind) same
 
--- no entry is called by the word of a request
+-- no entry is called by the word of a request,
 pub none_called : (word : EntryWord) (id : ℕ) (es : List ChannelEntry) → rank_called word ≡ None →
-    find (is_called word id) es ≡ None
-none_called word id es none =
-    find_none (is_called word id) es (λ l has. false_from_ne_true (is_called word id l) (λ is.
-    cc (sym (called_tells word id l is).0 ∙ none)))
+    All (λ l. is_called word id l ≡ false) es
+none_called word id es none i d inside =
+    let l : ChannelEntry = get_or es i d in
+    false_from_ne_true (is_called word id l) (λ is. cc (sym (called_tells word id l is).0 ∙ none))
 
--- the entry of a key is found
-pub called_found : (t : Tables) (es : List ChannelEntry) (word : EntryWord) (id rank : ℕ) (l : ChannelEntry) →
-    AreListed t es → Contains es l → rank_called word ≡ Some rank → key_of l.entry ≡ id * 5 + rank →
-    find (is_called word id) es ≡ Some l
-called_found t es word id rank l listed has ranked key =
-    let is = key_called word id rank l ranked key in
-    find_one (is_called word id) es l has is (λ m among called.
-    let same = same_called word id m l called is in
-    one_listed t es listed m l among has same.0 same.1)
+-- and none where the list parts at the key, and that isn't there
+pub key_missed : (es : List ChannelEntry) (word : EntryWord) (id rank key place : ℕ) → rank_called word ≡ Some rank →
+    key ≡ id * 5 + rank → IsNonDecreasingBy (λ l. key_of l.entry) es →
+    IsPartitionPoint (λ l. ltb (key_of l.entry) key ≡ true) (λ l. ltb (key_of l.entry) key ≡ false) es place →
+    ((d : ChannelEntry) → place < length es → key_of (get_or es place d).entry ≡ key → ⊥) →
+    All (λ l. is_called word id l ≡ false) es
+key_missed es word id rank key place ranked key_is rising point none i d inside =
+    let l : ChannelEntry = get_or es i d in
+    false_from_ne_true (is_called word id l) (λ is.
+    let same : key_of l.entry ≡ key = called_key word id rank l ranked is ∙ sym key_is in
+    elim (cases_lt i place) [
+      | inl low ↦ omega (arith, same, ltb-true (key_of l.entry) key (point.0 i d (omega arith) low))
+      | inr high ↦
+          let more : place < length es = omega (arith, high, inside) in
+          let first : key ≤ key_of (get_or es place d).entry =
+          ltb-false (key_of (get_or es place d).entry) key (point.1 place d (omega arith) more) in
+          none d more (omega (arith, same, first, rising place i d high inside))
+    ])
 
--- and where no entry has it, none is called so
-pub key_missed : (es : List ChannelEntry) (word : EntryWord) (id rank : ℕ) → rank_called word ≡ Some rank →
-    ((l : ChannelEntry) → Contains es l → key_of l.entry ≡ id * 5 + rank → ⊥) → find (is_called word id) es ≡ None
-key_missed es word id rank ranked none =
-    find_none (is_called word id) es (λ l has. false_from_ne_true (is_called word id l) (λ is.
-    none l has (called_key word id rank l ranked is)))
+-- one place alone is called so
+pub called_once : (t : Tables) (es : List ChannelEntry) (word : EntryWord) (id i j : ℕ) (d : ChannelEntry) →
+    AreListed t es → i < length es → j < length es → is_called word id (get_or es i d) ≡ true →
+    is_called word id (get_or es j d) ≡ true → i ≡ j
+called_once t es word id i j d listed in_i in_j one other =
+    let same = same_called word id (get_or es i d) (get_or es j d) one other in
+    one_place (λ l. key_of l.entry) es i j d listed.apart in_i in_j
+    (ap₂ (λ n kind. n * 5 + rank_of kind) same.1 same.0)
 
 -- What stands for the key of a word and an id.
 
@@ -229,3 +226,94 @@ pub rank_is : (id key : ℕ) (o : Option ℕ) → Some key ≡ option_map (λ ra
     (rank : ℕ) × (o ≡ Some rank) × (key ≡ id * 5 + rank)
 rank_is id key None is = absurd (cc is)
 rank_is id key (Some rank) is = (rank, refl, cc is)
+
+-- Keys differ: the entries of a channel are in order, and each channel has entries of its own.
+
+key_tells : (e f : Entry) → key_of e ≡ key_of f → (e.id ≡ f.id) × (rank_of e.kind ≡ rank_of f.kind)
+key_tells e f same = same_from_place e.id (rank_of e.kind) f.id (rank_of f.kind) 5 (few_ranks e.kind) (few_ranks f.kind) same
+
+not_before : (r s i j : ℕ) → (nat_lt r s || ((r == s) && nat_lt i j)) ≡ true → r ≡ s → i ≡ j → ⊥
+not_before r s i j before rank id = grind (arith, nat_tests)
+
+other_key : (c : Channel) (e f : Entry) → goes_before e f ≡ true → same_key (on c e) (on c f) ≡ false
+other_key c e f before = ne_eqb (key_of e) (key_of f) (λ same.
+    let parts = key_tells e f same in
+    not_before (rank_of e.kind) (rank_of f.kind) e.id f.id before parts.1 parts.0)
+
+-- those of a channel,
+own_apart : (c : Channel) (es : List Entry) → IsOrdered es → IsDistinct same_key (map (on c) es)
+unfolding IsDistinct
+own_apart c [] order = tt
+own_apart c (e ∷ es) order = (heads es order.0, own_apart c es order.1)
+  where
+    heads : (fs : List Entry) → AllByRecursion (λ f. goes_before e f ≡ true) fs →
+        AllByRecursion (λ l. same_key (on c e) l ≡ false) (map (on c) fs)
+    heads [] before = tt
+    heads (f ∷ fs) before = (other_key c e f before.0, heads fs before.1)
+
+-- and of two lists between which none is the same
+joined_apart : (xs ys : List ChannelEntry) → IsDistinct same_key xs → IsDistinct same_key ys →
+    AllByRecursion (λ x. AllByRecursion (λ y. same_key x y ≡ false) ys) xs → IsDistinct same_key (xs ++ ys)
+unfolding IsDistinct
+joined_apart [] ys own others cross = others
+joined_apart (x ∷ xs) ys own others cross = (
+  all_append (λ y. same_key x y ≡ false) xs ys own.0 cross.0,
+  joined_apart xs ys own.1 others cross.1,
+)
+
+module _ (t : Tables) (tables : AreTables t) where
+  abbrev of : Channel → List ChannelEntry
+  of c = map (on c) (entries t c)
+
+  strangers : (c d : Channel) → Contains t.channels c → Contains t.channels d → (c.id ≡ d.id → ⊥) → (e f : Entry) →
+      Contains (entries t c) e → Contains (entries t d) f → same_key (on c e) (on d f) ≡ false
+  strangers c d has_c has_d apart e f has_e has_f = ne_eqb (key_of e) (key_of f) (λ same.
+      let parts = key_tells e f same in
+      apart (ap (λ c. c.id) (entries_are_apart t tables c d has_c has_d e f has_e has_f
+      (same_kind e.kind f.kind parts.1) parts.0).0))
+
+  all_of : (cs : List Channel) → AllByRecursion (Contains t.channels) cs → AreApart (map (λ c. c.id) cs) →
+      IsDistinct same_key (flat_map of cs)
+  unfolding IsDistinct
+  all_of [] among apart = tt
+  all_of (c ∷ cs) among apart =
+      rw (flat_map-cons of c cs) (joined_apart (of c) (flat_map of cs) (own_apart c (entries t c) (entries_ordered t c tables))
+      (all_of cs among.1 apart.1)
+      (all_mapped (λ l. AllByRecursion (λ m. same_key l m ≡ false) (flat_map of cs)) (on c) (entries t c)
+      (all_contained _ (entries t c) (λ e has_e.
+      all_flat (λ m. same_key (on c e) m ≡ false) of cs (others cs among.1 apart.0 e has_e)))))
+    where
+      others : (ds : List Channel) → AllByRecursion (Contains t.channels) ds →
+          AllByRecursion (λ id. c.id ≡ id → ⊥) (map (λ c. c.id) ds) → (e : Entry) → Contains (entries t c) e →
+          AllByRecursion (λ d. AllByRecursion (λ m. same_key (on c e) m ≡ false) (of d)) ds
+      others [] has ids e has_e = tt
+      others (d ∷ ds) has ids e has_e = (
+        all_mapped (λ m. same_key (on c e) m ≡ false) (on d) (entries t d)
+            (all_contained _ (entries t d) (λ f has_f. strangers c d among.0 has.0 ids.0 e f has_e has_f)),
+        others ds has.1 ids.1 e has_e,
+      )
+
+  pub entries_differ : IsDistinct same_key (channel_entries t)
+  entries_differ =
+      all_of t.channels (all_contained (Contains t.channels) t.channels (λ c has. has)) tables.channels_apart
+
+-- Activity.
+
+-- A flow whose activity is detected is active in a round as the marks tell,
+pub speaks_as_told : (t : Tables) (v : TraceAsks) (marks : Marks) (l : ChannelEntry) (s : Silence) (round : ℕ) →
+    AreTables t → AreMarksOf t v marks → Contains (channel_entries t) l → l.entry.silence ≡ Some s →
+    is_active marks s.word round ≡ active_in l.entry.silence (cuts_in t v) round
+speaks_as_told t v marks l s round tables told has is =
+    let word = word_of t l s tables has is in
+    told.told word.0 s round word.1
+    ∙ ap (λ silence. active_in silence (cuts_in t v) round) (sym is)
+
+stays : (cuts : List (List ℕ)) (was : Bool) → activity None was cuts ≡ was
+stays [] was = refl
+stays (cut ∷ cuts) was = stays cuts was
+
+-- and another one always is
+pub speaks_always : (cuts : List (List ℕ)) (silence : Option Silence) (round : ℕ) → silence ≡ None →
+    true ≡ active_in silence cuts round
+speaks_always cuts silence round none =
+    sym (ap (λ s. active_in s cuts round) none ∙ stays (take (round + 1) cuts) true)

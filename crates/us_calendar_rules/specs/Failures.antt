@@ -1,49 +1,52 @@
--- What fails of the rule of calendars' lines, told by marks.
-use Rattle.std.specs.Prelude.{◌≡◌, ℕ, ◌<◌, nat_le, ◌&&◌, ◌||◌, Bool, true, false, List, Option, Some, None}
+-- What fails of the rule of calendars' lines, by how often numbers are named.
+use Rattle.std.specs.Prelude.{◌≡◌, ℕ, ◌<◌, ◌≤◌, ◌==◌, nat_le, Bool, true, false, List, Option, Some, None, count_by}
+use Rattle.std.specs.List.{list_any}
 use Rattle.us_calendar.specs.Occurrences.{comes}
 use Rattle.us_output.specs.declared.rows.Row.{Row}
 use Rattle.us_lawful.specs.declared.place.Place.{Place}
 use Rattle.us_lawful.specs.Runs.{Run}
-use Rattle.us_lawful.specs.CalendarLines.{ChannelEntry, closes, closing_round, is_right_line, speaks_in}
+use Rattle.us_lawful.specs.CalendarLines.{ChannelEntry, closes, closing_round, speaks_in}
 use Rattle.us_breaches.specs.Breaches.{At}
 use Rattle.us_calendar_rules.specs.declared.naming.CalendarLine.{CalendarLine}
-use Rattle.us_calendar_rules.specs.declared.naming.Occurrence.{Occurrence}
-use Rattle.us_calendar_rules.specs.Naming.{begins_in, calendar_line, occurrence_named}
-use Rattle.us_calendar_rules.specs.Marks.{marked, numbers}
+use Rattle.us_calendar_rules.specs.declared.told.OpenLine.{OpenLine}
+use Rattle.us_calendar_rules.specs.Naming.{calendar_line, tells_right}
 
--- A line is right for the occurrence that it names; and while that is open it is one that begins in the run, and no other line
--- names it. What closes in the run begins in it.
-abbrev pub is_told_right : Run → List ℕ → Row → Occurrence → Bool
-is_told_right run marks row o =
-    is_right_line run o.of o.number row
-    && (closes run o.of.entry o.number || (begins_in run o && nat_le (marked marks o.of o.number) 1))
+-- how often a number stands in a list
+abbrev pub times_in : List ℕ → ℕ → ℕ
+times_in ns n = count_by (λ m. m == n) ns
 
-abbrev pub is_told : Run → List ℕ → Row → Option Occurrence → Bool
-is_told run marks row None = false
-is_told run marks row (Some o) = is_told_right run marks row o
+-- Of numbers of which some come: the first from one on that does,
+pub record IsDue (come : ℕ → Bool) (from due : ℕ) : Type 0 where
+  pub comes : come due ≡ true
+  pub later : from ≤ due
+  pub none : (m : ℕ) → from ≤ m → m < due → come m ≡ false
 
--- a line of a calendar that isn't fails where it is
-abbrev pub FailsAsLine : Run → List ChannelEntry → List ℕ → Row → Option CalendarLine → Place → Type 0
-FailsAsLine run es marks row None p = ⊥
-FailsAsLine run es marks row (Some line) p = At line.at (is_told run marks row (occurrence_named run es line)) p
+-- and the first that does and isn't named once
+pub record IsFirstWrong (come : ℕ → Bool) (times : ℕ → ℕ) (number : ℕ) : Type 0 where
+  pub comes : come number ≡ true
+  pub wrong : times number ≡ 1 → ⊥
+  pub before : (m : ℕ) → m < number → come m ≡ true → times m ≡ 1
 
-abbrev pub LineFails : Run → List ChannelEntry → List ℕ → Row → Place → Type 0
-LineFails run es marks row p = FailsAsLine run es marks row (calendar_line row) p
+-- A line of a calendar that isn't right by itself fails where it is.
+abbrev pub FailsAsLine : Run → List ChannelEntry → Row → Option CalendarLine → Place → Type 0
+FailsAsLine run es row None p = ⊥
+FailsAsLine run es row (Some line) p = At line.at (list_any (tells_right run row line) es) p
 
--- An occurrence of an entry that comes and closes isn't marked once.
-pub record ClosingFails (run : Run) (marks : List ℕ) (l : ChannelEntry) (p : Place) : Type 0 where
+abbrev pub LineFails : Run → List ChannelEntry → Row → Place → Type 0
+LineFails run es row p = FailsAsLine run es row (calendar_line row) p
+
+-- whether an occurrence of an entry comes
+abbrev pub comes_in : Run → ChannelEntry → ℕ → Bool
+comes_in run l = comes l.entry (speaks_in run l.entry)
+
+-- Of an entry, where it is told how often each occurrence is named: one that comes and closes isn't named once,
+pub record ClosingFails (run : Run) (l : ChannelEntry) (times : ℕ → ℕ) (p : Place) : Type 0 where
   pub number : ℕ
-  pub come : comes l.entry (speaks_in run l.entry) number ≡ true
+  pub come : comes_in run l number ≡ true
   pub closes : closes run l.entry number ≡ true
   pub place : p ≡ record { round = closing_round run.tables l.entry number; channel = l.channel.id; third = l.entry.id }
-  pub wrong : marked marks l number ≡ 1 → ⊥
+  pub wrong : times number ≡ 1 → ⊥
 
--- the least number of an occurrence of an entry that isn't marked once
-pub record IsFirstUnmarked (marks : List ℕ) (l : ChannelEntry) (number : ℕ) : Type 0 where
-  pub wrong : marked marks l number ≡ 1 → ⊥
-  pub before : (m : ℕ) → m < number → marked marks l m ≡ 1
-
--- An occurrence of an entry that doesn't come is marked as often as an earlier one: the first of its interval.
-abbrev pub IsAlike : Run → List ℕ → ChannelEntry → Type 0
-IsAlike run marks l = (n : ℕ) → n < numbers → comes l.entry (speaks_in run l.entry) n ≡ false →
-    (m : ℕ) × (m < n) × (marked marks l n ≡ marked marks l m)
+-- or an open one is named by several lines, which fail where they are
+abbrev pub OpenFails : (ℕ → ℕ) → OpenLine → Place → Type 0
+OpenFails times o p = At o.at (nat_le (times o.number) 1) p

@@ -1,13 +1,16 @@
 -- What a line of a calendar names: an occurrence of an entry.
-use Rattle.std.specs.Prelude.{◌+◌, ◌*◌, nat_lt, ℕ, Bool, if◌then◌else◌, List, find, Option, Some, None, option_and_then}
-use Rattle.us_calendar.specs.Occurrences.{ideal}
+use Rattle.std.specs.Prelude.{ℕ, ◌+◌, ◌*◌, ◌^◌, nat_lt, ◌&&◌, Bool, if◌then◌else◌, Option, Some, None}
 use Rattle.us_output.specs.declared.rows.Row.{Row}
 use Rattle.us_output.specs.declared.rows.Row.TheVariants as rows
 use Rattle.us_lawful.specs.Runs.{Run, is_requested}
-use Rattle.us_lawful.specs.CalendarLines.{ChannelEntry, round_quarters, speaks_in}
+use Rattle.us_lawful.specs.CalendarLines.{ChannelEntry, is_right_line, is_there}
+use Rattle.us_calendar.specs.Entries.{Entry}
 use Rattle.us_calendar_rules.specs.declared.naming.CalendarLine.{CalendarLine}
-use Rattle.us_calendar_rules.specs.declared.naming.Occurrence.{Occurrence}
 use Rattle.us_calendar_rules.specs.Listed.{is_called}
+
+-- the numbers of the occurrences that lines can name are below this
+abbrev pub numbers : ℕ
+numbers = 2 ^ 72
 
 -- where a line of a calendar is, and what it names
 abbrev pub calendar_line : Row → Option CalendarLine
@@ -25,26 +28,20 @@ calendar_line (rows.Missed m) = Some (record {
 })
 calendar_line _ = None
 
--- whether the flow of an entry is active as an interval of it begins
-abbrev pub speaks_at : Run → ChannelEntry → ℕ → Bool
-speaks_at run l i = speaks_in run l.entry (l.entry.start + i * l.entry.interval)
+-- the number of the occurrence that it names of an entry
+abbrev pub number_in : Entry → CalendarLine → ℕ
+number_in e line = line.i * e.grants + line.k
 
--- and as the interval of an occurrence does
-abbrev pub speaks_of : Run → Occurrence → Bool
-speaks_of run o = speaks_in run o.of.entry (ideal o.of.entry o.number)
+-- it names one that is there
+abbrev pub is_of_there : Run → Entry → CalendarLine → Bool
+is_of_there run e line = nat_lt line.k e.grants && is_there run e (number_in e line)
 
--- an occurrence is ideal before the run ends
-abbrev pub begins_in : Run → Occurrence → Bool
-begins_in run o = nat_lt (ideal o.of.entry o.number) (run.rounds * round_quarters run.tables)
+abbrev pub tells : Run → ChannelEntry → CalendarLine → Bool
+tells run l line = is_called line.entry line.at.third l && is_of_there run l.entry line
 
--- the occurrence of an entry with this interval and place, if the interval has so many grants
-abbrev pub occurrence_at : Run → CalendarLine → ChannelEntry → Option Occurrence
-occurrence_at run line l =
-    let active : Bool = speaks_at run l line.i in
-    if nat_lt line.k (if active then l.entry.grants else 1)
-    then Some (record { of = l; number = line.i * l.entry.grants + line.k; active = active })
-    else None
+abbrev pub number_told : Run → ChannelEntry → CalendarLine → Option ℕ
+number_told run l line = if tells run l line then Some (number_in l.entry line) else None
 
--- that of the entry that the line calls
-abbrev pub occurrence_named : Run → List ChannelEntry → CalendarLine → Option Occurrence
-occurrence_named run es line = option_and_then (occurrence_at run line) (find (is_called line.entry line.at.third) es)
+-- and the line is right for it by itself
+abbrev pub tells_right : Run → Row → CalendarLine → ChannelEntry → Bool
+tells_right run row line l = tells run l line && is_right_line run l (number_in l.entry line) row

@@ -1,20 +1,97 @@
-ghost use Rattle.std.specs.Prelude.{◌≡◌, true, IfOk};
-ghost use Rattle.us_lawful.specs.Runs.{run_in};
+ghost use Rattle.std.specs.Prelude.{◌≡◌, ◌++◌, ◌∷◌, [], true, List, length, map, IfOk, OnOk};
+ghost use Rattle.us_output.specs.declared.rows.Row.{Row as ReportRow};
+ghost use Rattle.us_lawful.specs.Runs.{run_in, Judged as JudgedFiles};
 ghost use Rattle.us_lawful.specs.CalendarLines.{calendar_lines_hold};
-ghost use Rattle.us_breaches.specs.Breaches.{IsFirstBreach};
+ghost use Rattle.us_breaches.specs.Breaches.{Any, IsFirstBreach, IsFirstFailure};
+ghost use Rattle.us_calendar_rules.specs.Listed.{AreListed};
+ghost use Rattle.us_calendar_rules.specs.Failures.{LineFails};
+ghost use Rattle.us_calendar_rules.specs.Told as spec;
 
-use crate::closings::closing_breach;
-use crate::listed::listed;
-use crate::marks::marks_of;
+use crate::closings::unless;
+use crate::listed::{ChannelEntry, called, listed};
+use crate::naming::calendar_line;
 use crate::runs::JudgedRun;
-use crate::told::told_breach;
-use std::alloc::Global;
+use crate::told::ToldEntry;
+use std::alloc::{AllocError, Global};
+use std::marker::Model;
 use us_activity::Activities;
 use us_breaches::earlier;
 use us_flows::Config;
 use us_lawful::{Judged, Place};
 use us_requests::Trace;
+use us_round::Row;
 use us_slots::NoMemory;
+
+/// What lines tell of the entries of all calendars, and the first place with one that isn't right by itself.
+#[derive(Drop)]
+pub struct CalendarLines<'a> {
+    run: JudgedRun<'a>,
+    entries: Vec<ChannelEntry>,
+    told: Vec<ToldEntry>,
+    first: Option<Place>,
+}
+
+impl<'a> Model for CalendarLines<'a> {
+    ghost Value = { spec.CalendarLines };
+
+    ghost view = { λ c. record {
+      run = c.run;
+      entries = c.entries.items;
+      told = c.told.items;
+      first = c.first;
+    } };
+
+    ghost invariant = { λ c. AreListed c.run.tables c.entries.items × (length c.told.items ≡ length c.entries.items) };
+}
+
+impl<'a> CalendarLines<'a> {
+    /// What no line tells.
+    pub fn new(
+        alloc: Global,
+        config: &'a Config,
+        trace: &'a Trace,
+    ) -> Result<CalendarLines<'a>, NoMemory>
+        ensures run { IfOk result (λ c. c.run ≡ run_in config.now trace.now) }
+        ensures told { IfOk result (spec.AreTold []) }
+    {
+        let activities = Activities::of(alloc, config, trace)?;
+        let entries = listed(alloc, config)?;
+        let mut told = Vec::new(alloc);
+        for _ in 0..entries.len() {
+            told.push(ToldEntry::new(alloc))?;
+        }
+        Ok(CalendarLines {
+            run: JudgedRun {
+                config,
+                trace,
+                activities,
+            },
+            entries,
+            told,
+            first: None,
+        })
+    }
+
+    /// A line more. After an error it isn't known what is told.
+    pub fn take(&mut self, row: &Row) -> Result<(), NoMemory>
+        ensures run { self.new.run ≡ self.old.run }
+        ensures told { OnOk result ((lines : List ReportRow) → spec.AreTold lines self.old →
+            spec.AreTold (lines ++ row.now ∷ []) self.new) }
+    {
+        let breach = line_breach(&self.run, &self.entries, &mut self.told, row)?;
+        self.first = earlier(self.run.channels(), self.first, breach);
+        Ok(())
+    }
+
+    /// The first place at which the rule of calendars' lines doesn't hold; `None` where it holds everywhere.
+    pub fn breach(&mut self) -> Option<Place>
+        ensures { (judged : JudgedFiles) → spec.AreTold judged.lines self.old →
+            IsFirstBreach self.old.run.tables.channels (λ p. calendar_lines_hold self.old.run judged p ≡ true) result }
+    {
+        let others = entries_breach(&self.run, &self.entries, &mut self.told);
+        earlier(self.run.channels(), self.first, others)
+    }
+}
 
 /// The first place at which the rule of calendars' lines doesn't hold; `None` where it holds everywhere.
 pub fn calendar_lines_breach(
@@ -26,18 +103,54 @@ pub fn calendar_lines_breach(
     ensures { IfOk result (IsFirstBreach config.now.channels
         (λ p. calendar_lines_hold (run_in config.now trace.now) judged.now p ≡ true)) }
 {
-    // Asked for what it tells of the run: how many rounds it may have.
-    let _ = trace.rounds();
-    let lines = judged.lines();
-    let activities = Activities::of(alloc, config, trace)?;
-    let run = JudgedRun {
-        config,
-        trace,
-        activities: &activities,
+    let mut lines = CalendarLines::new(alloc, config, trace)?;
+    for row in judged.lines() {
+        lines.take(row)?;
+    }
+    Ok(lines.breach())
+}
+
+/// A line more. Where it is, if it isn't right by itself.
+fn line_breach(
+    run: &JudgedRun<'_>,
+    entries: &[ChannelEntry],
+    told: &mut Vec<ToldEntry>,
+    row: &Row,
+) -> Result<Option<Place>, AllocError>
+    requires listed { AreListed run.now.tables entries.now }
+    requires long { length told.old.items ≡ length entries.now }
+    ensures long { length told.new.items ≡ length entries.now }
+    ensures told { OnOk result ((lines : List ReportRow) →
+        told.old.items ≡ map (spec.told_of run.now lines) entries.now →
+        told.new.items ≡ map (spec.told_of run.now (lines ++ row.now ∷ [])) entries.now) }
+    ensures first { IfOk result (IsFirstFailure run.now.tables.channels (LineFails run.now entries.now row.now)) }
+{
+    let Some(line) = calendar_line(row) else {
+        return Ok(None);
     };
-    let entries = listed(alloc, config)?;
-    let marks = marks_of(alloc, &run, &entries, lines)?;
-    let told = told_breach(&run, &entries, &marks, lines);
-    let closing = closing_breach(&run, &entries, &marks);
-    Ok(earlier(config.channels(), told, closing))
+    let Some(place) = called(entries, line.entry, line.at.third) else {
+        return Ok(Some(line.at));
+    };
+    let right = told[place].take(run, &entries[place], line, row)?;
+    Ok(unless(right, line.at))
+}
+
+/// The first place at which an entry's occurrences fail.
+fn entries_breach(
+    run: &JudgedRun<'_>,
+    entries: &[ChannelEntry],
+    told: &mut Vec<ToldEntry>,
+) -> Option<Place>
+    requires listed { AreListed run.now.tables entries.now }
+    requires long { length told.old.items ≡ length entries.now }
+    ensures long { length told.new.items ≡ length entries.now }
+    ensures first { (lines : List ReportRow) → told.old.items ≡ map (spec.told_of run.now lines) entries.now →
+        IsFirstFailure run.now.tables.channels (Any (spec.OccurrencesFail run.now lines) entries.now) result }
+{
+    let mut first = None;
+    for place in 0..entries.len() {
+        let breach = told[place].breach(run, &entries[place]);
+        first = earlier(run.channels(), first, breach);
+    }
+    first
 }

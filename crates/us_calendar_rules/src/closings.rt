@@ -1,49 +1,122 @@
-ghost use Rattle.std.specs.Prelude.{All};
-ghost use Rattle.std.specs.List.Sorted.{IsNonDecreasing};
+ghost use Rattle.std.specs.Prelude.{◌≡◌, ◌+◌, ◌^◌, ◌<◌, ◌≤◌, true, nat_le, All, Contains, if◌then◌else◌};
+ghost use Rattle.std.specs.List.Sorted.{IsNonDecreasing, IsPermutation};
+ghost use Rattle.us_lawful.specs.CalendarLines.{channel_entries};
 ghost use Rattle.us_breaches.specs.Breaches.{Any, IsFirstFailure};
+ghost use Rattle.us_calendar_rules.specs.Failures.{times_in};
 ghost use Rattle.us_calendar_rules.specs.Failures as spec;
 
 use crate::listed::ChannelEntry;
-use crate::marks::first_unmarked;
 use crate::runs::JudgedRun;
-use crate::windows::closing;
+use crate::told::OpenLine;
+use crate::windows::{closing, ideal};
 use us_breaches::earlier;
 use us_lawful::Place;
 
-/// The first place at which an occurrence closes that isn't named exactly once.
-pub(crate) fn closing_breach(
-    run: &JudgedRun<'_>,
-    entries: &[ChannelEntry],
-    marks: &[u128],
-) -> Option<Place>
-    requires rising { IsNonDecreasing marks.now }
-    requires alike { All (spec.IsAlike run.now marks.now) entries.now }
-    ensures { IsFirstFailure run.now.tables.channels
-        (Any (spec.ClosingFails run.now marks.now) entries.now) result }
+/// Puts numbers in order. Lines mostly tell them so.
+pub(crate) fn put_in_order(numbers: &mut Vec<u64>)
+    ensures moved { IsPermutation numbers.old.items numbers.new.items }
+    ensures rising { IsNonDecreasing numbers.new.items }
 {
-    let mut first = None;
-    for entry in entries {
-        let breach = entry_breach(run, marks, entry);
-        first = earlier(run.config.channels(), first, breach);
+    if !numbers.is_sorted() {
+        numbers.sort_unstable();
     }
-    first
 }
 
-/// Where the first occurrence of an entry closes that isn't named exactly once. The first number that isn't marked once is
-/// that of an occurrence, and the windows of an entry close one after another, so that no later one closes in an earlier
-/// round.
-fn entry_breach(run: &JudgedRun<'_>, marks: &[u128], entry: &ChannelEntry) -> Option<Place>
-    requires rising { IsNonDecreasing marks.now }
-    requires alike { spec.IsAlike run.now marks.now entry.now }
-    ensures { IsFirstFailure run.now.tables.channels
-        (spec.ClosingFails run.now marks.now entry.now) result }
+/// Where the first occurrence of an entry closes that isn't named once. The windows of an entry close one after another, so
+/// that no later one closes in an earlier round.
+pub(crate) fn closing_breach(
+    run: &JudgedRun<'_>,
+    of: &ChannelEntry,
+    numbers: &[u64],
+) -> Option<Place>
+    requires entry { Contains (channel_entries run.now.tables) of.now }
+    requires rising { IsNonDecreasing numbers.now }
+    ensures { All (λ n. spec.comes_in run.now of.now n ≡ true) numbers.now →
+        IsFirstFailure run.now.tables.channels (spec.ClosingFails run.now of.now (times_in numbers.now)) result }
 {
-    let number = first_unmarked(marks, entry);
-    let of = *entry;
-    let round = closing(run, entry, number)?;
+    let number = first_wrong(run, of, numbers);
+    let of = *of;
+    let round = closing(run, &of, number)?;
     Some(Place {
         round,
         channel: u64::from(of.channel.id),
         third: u64::from(of.entry.id),
     })
+}
+
+/// The first line of an open occurrence that another line names too.
+pub(crate) fn doubled_breach(
+    run: &JudgedRun<'_>,
+    numbers: &[u64],
+    open_lines: &[OpenLine],
+) -> Option<Place>
+    requires { IsNonDecreasing numbers.now }
+    ensures { IsFirstFailure run.now.tables.channels (Any (spec.OpenFails (times_in numbers.now)) open_lines.now) result }
+{
+    let mut first = None;
+    for line in open_lines {
+        let breach = unless(is_once(numbers, line.number), line.at);
+        first = earlier(run.channels(), first, breach);
+    }
+    first
+}
+
+/// The place of a test, unless it holds.
+pub(crate) fn unless(holds: bool, at: Place) -> Option<Place>
+    ensures { result ≡ (if holds then None else Some at) }
+{
+    if holds { None } else { Some(at) }
+}
+
+/// Whether a number stands at most once among numbers that rise.
+fn is_once(numbers: &[u64], number: u64) -> bool
+    requires { IsNonDecreasing numbers.now }
+    ensures { result ≡ nat_le (times_in numbers.now number) 1 }
+{
+    let first = numbers.partition_point(|other| *other < number);
+    match numbers.get(first + 1) {
+        Some(second) => *second != number,
+        None => true,
+    }
+}
+
+/// The number of the first occurrence of an entry that comes and isn't named once.
+fn first_wrong(run: &JudgedRun<'_>, of: &ChannelEntry, numbers: &[u64]) -> u128
+    requires entry { Contains (channel_entries run.now.tables) of.now }
+    requires rising { IsNonDecreasing numbers.now }
+    ensures first { All (λ n. spec.comes_in run.now of.now n ≡ true) numbers.now →
+        spec.IsFirstWrong (spec.comes_in run.now of.now) (times_in numbers.now) result }
+    ensures few { result < 2 ^ 65 }
+{
+    let mut next = 0;
+    for number in numbers {
+        let number = u128::from(*number);
+        if number < next {
+            return number; // it is named twice
+        }
+        if number > next {
+            let due = coming(run, of, next);
+            if number > due {
+                return due; // it isn't named
+            }
+        }
+        next = number + 1;
+    }
+    coming(run, of, next)
+}
+
+/// The first occurrence of an entry from a number on that comes. All of its interval come while the flow is active, and of
+/// the next one the first does.
+fn coming(run: &JudgedRun<'_>, of: &ChannelEntry, number: u128) -> u128
+    requires entry { Contains (channel_entries run.now.tables) of.now }
+    requires few { number ≤ 2 ^ 64 }
+    ensures due { spec.IsDue (spec.comes_in run.now of.now) number result }
+    ensures few { result < 2 ^ 65 }
+{
+    let entry = of.entry;
+    let grants = u128::from(entry.grants);
+    if number % grants == 0 || run.speaks_in(of, ideal(&entry, number)) {
+        return number;
+    }
+    (number / grants + 1) * grants
 }

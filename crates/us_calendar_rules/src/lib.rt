@@ -5,10 +5,17 @@
 //! let first = calendar_lines_breach(alloc, &config, &trace, &judged)?; // None: it holds everywhere
 //! ```
 //!
-//! Each line that names an occurrence gives it a mark, a number by entry and by occurrence, and the marks are sorted. One
-//! that names a poll of a silent flow marks its whole interval, whose other occurrences aren't there. So
-//! a line's entry is found, and its marks counted, by halving; and an entry's marks are walked from its first one on, up
-//! to the first occurrence that isn't marked once.
+//! Lines may be told one after another too, and need not be kept:
+//!
+//! ```
+//! let mut lines = CalendarLines::new(alloc, &config, &trace)?;
+//! lines.take(&row)?; // for each line
+//! let first = lines.breach();
+//! ```
+//!
+//! A line is judged by itself as it comes, and its entry keeps the number of the occurrence that it names. At the end the
+//! numbers of each entry are walked in order, up to the first occurrence that comes and isn't named once. What is still open as
+//! the run ends may be left out, so of lines of these the places are kept too, and each is looked up among the numbers.
 //!
 //! What these words mean stands in `specs/`, in the order of its `Lib.antt`.
 #![tactic(auto)]
@@ -19,25 +26,22 @@ mod listed;
 // The run that is judged.
 mod runs;
 
-// What a line names.
-mod naming;
-
 // When an occurrence may start, and when its window closes.
 mod windows;
 
-// How often it is named.
-mod marks;
+// What a line names.
+mod naming;
 
-// Lines that aren't right.
-mod told;
-
-// Windows that close without a line, or with two.
+// Occurrences that aren't named once.
 mod closings;
+
+// What lines tell of an entry.
+mod told;
 
 // The rule.
 mod calendar_lines;
 
-pub use calendar_lines::calendar_lines_breach;
+pub use calendar_lines::{CalendarLines, calendar_lines_breach};
 
 #[cfg(test)]
 mod tests;

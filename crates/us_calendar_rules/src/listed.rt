@@ -1,4 +1,4 @@
-ghost use Rattle.std.specs.Prelude.{◌≡◌, ◌+◌, ◌*◌, ◌^◌, ◌<◌, ◌++◌, map, find, option_map, OnOk, IfOk};
+ghost use Rattle.std.specs.Prelude.{◌≡◌, ◌+◌, ◌*◌, ◌^◌, ◌<◌, ◌++◌, map, option_map, OnOk, IfOk};
 ghost use Rattle.us_flows.specs.Tables.{Tables};
 ghost use Rattle.us_flows.specs.Lawful.{AreTables, IsChannel};
 ghost use Rattle.us_calendar.specs.Entries as calendar;
@@ -39,15 +39,16 @@ pub(crate) fn listed(alloc: Global, config: &Config) -> Result<Vec<ChannelEntry>
     Ok(entries)
 }
 
-/// The entry that a word and an id call.
-pub(crate) fn called(entries: &[ChannelEntry], word: EntryWord, id: u64) -> Option<ChannelEntry>
+/// The place of the entry that a word and an id call.
+pub(crate) fn called(entries: &[ChannelEntry], word: EntryWord, id: u64) -> Option<usize>
     requires { (t : Tables) × spec.AreListed t entries.now }
-    ensures { result ≡ find (spec.is_called word id) entries.now }
+    ensures { spec.IsPlace word id entries.now result }
 {
     let key = key_called(word, id)?;
-    match entries.binary_search_by_key(&key, |listed| key_of(&listed.entry)) {
-        Ok(place) => Some(entries[place]),
-        Err(_) => None,
+    let place = entries.partition_point(|listed| key_of(&listed.entry) < key);
+    match entries.get(place) {
+        Some(listed) if key_of(&listed.entry) == key => Some(place),
+        _ => None,
     }
 }
 

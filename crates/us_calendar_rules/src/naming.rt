@@ -1,10 +1,11 @@
-ghost use Rattle.std.specs.Prelude.{◌≡◌, ◌<◌, ◌^◌, IfSome};
-ghost use Rattle.us_calendar_rules.specs.Listed.{AreListed};
+ghost use Rattle.std.specs.Prelude.{◌≡◌, true, Contains};
+ghost use Rattle.us_lawful.specs.CalendarLines.{channel_entries};
+ghost use Rattle.us_calendar_rules.specs.Listed.{is_called};
 ghost use Rattle.us_calendar_rules.specs.Naming as spec;
-ghost use Rattle.us_calendar_rules.specs.Marks.{numbers};
 
-use crate::listed::{ChannelEntry, called};
+use crate::listed::ChannelEntry;
 use crate::runs::JudgedRun;
+use crate::windows::{begins, ideal};
 use us_lawful::Place;
 use us_round::{EntryWord, Row};
 
@@ -19,17 +20,6 @@ pub(crate) struct CalendarLine {
     pub(crate) i: u64,
     /// The place among the grants of the interval.
     pub(crate) k: u64,
-}
-
-/// An occurrence of an entry.
-#[derive(Clone, Copy)]
-pub(crate) struct Occurrence {
-    /// The entry.
-    pub(crate) of: ChannelEntry,
-    /// Its number, from 0 as they come.
-    pub(crate) number: u128,
-    /// Whether the flow is active as the interval begins, so that it is a grant. Of a silent one it is a poll.
-    pub(crate) active: bool,
 }
 
 /// A line of a calendar; `None` for other lines.
@@ -61,31 +51,21 @@ pub(crate) fn calendar_line(row: &Row) -> Option<CalendarLine>
     }
 }
 
-/// The occurrence that a line names; `None` where there is no such entry, or where the interval has fewer grants: all of
-/// them while the flow is active, and the first alone while it is silent.
-pub(crate) fn occurrence_named(
-    run: &JudgedRun<'_>,
-    entries: &[ChannelEntry],
-    line: CalendarLine,
-) -> Option<Occurrence>
-    requires { AreListed run.now.tables entries.now }
-    ensures value { result ≡ spec.occurrence_named run.now entries.now line }
-    ensures number { IfSome result (λ occurrence. occurrence.number < numbers) }
-    ensures interval { line.i < 2 ^ 64 }
+/// The number of the occurrence that a line names of the entry that it calls, from 0 as they come; `None` where it isn't there. It begins
+/// before the run ends, and of an interval all come while the flow is active, and the first alone while it is silent.
+pub(crate) fn number_told(run: &JudgedRun<'_>, of: &ChannelEntry, line: CalendarLine) -> Option<u64>
+    requires entry { Contains (channel_entries run.now.tables) of.now }
+    requires called { is_called line.entry line.at.third of.now ≡ true }
+    ensures { result ≡ spec.number_told run.now of.now line }
 {
-    let i = u128::from(line.i);
-    let of = called(entries, line.entry, line.at.third)?;
     let entry = of.entry;
-    let begins = u128::from(entry.start) + i * u128::from(entry.interval);
-    let active = run.speaks_in(&of, begins);
-    let grants = u128::from(entry.grants);
-    let k = u128::from(line.k);
-    if k >= if active { grants } else { 1 } {
+    let grants = u64::from(entry.grants);
+    let number = u128::from(line.i) * u128::from(grants) + u128::from(line.k);
+    if line.k >= grants || !begins(run, of, number) {
         return None;
     }
-    Some(Occurrence {
-        of,
-        number: i * grants + k,
-        active,
-    })
+    if line.k > 0 && !run.speaks_in(of, ideal(&entry, number)) {
+        return None;
+    }
+    Some(number as u64)
 }

@@ -7,7 +7,7 @@ ghost use Rattle.us_activity.specs.Activities.{AreMarksOf};
 use crate::listed::ChannelEntry;
 use std::marker::Model;
 use us_activity::Activities;
-use us_flows::Config;
+use us_flows::{Channel, Config};
 use us_requests::Trace;
 use us_slots::QUARTERS_PER_TICK;
 
@@ -16,7 +16,7 @@ use us_slots::QUARTERS_PER_TICK;
 pub(crate) struct JudgedRun<'a> {
     pub(crate) config: &'a Config,
     pub(crate) trace: &'a Trace,
-    pub(crate) activities: &'a Activities,
+    pub(crate) activities: Activities,
 }
 
 impl<'a> Model for JudgedRun<'a> {
@@ -24,10 +24,17 @@ impl<'a> Model for JudgedRun<'a> {
 
     ghost view = { λ r. run_in r.config.now r.trace.now };
 
-    ghost invariant = { λ r. AreMarksOf r.config.now r.trace.now r.activities.now };
+    ghost invariant = { λ r. AreMarksOf r.config.now r.trace.now r.activities };
 }
 
 impl<'a> JudgedRun<'a> {
+    /// The channels of the table.
+    pub(crate) fn channels(&self) -> &[Channel]
+        ensures { result.now ≡ self.now.tables.channels }
+    {
+        self.config.channels()
+    }
+
     /// The quarter microseconds of a round.
     pub(crate) fn round_quarters(&self) -> u64
         ensures value { result ≡ lawful.round_quarters self.now.tables }

@@ -230,7 +230,7 @@ line_among (rows.Activity a ∷ lines) g among = inr (line_among lines g among)
 line_among (rows.Counts u ∷ lines) g among = inr (line_among lines g among)
 
 -- a G line is of a round and a channel of the run
-pub has_its_place : (run : Run) (judged : Judged) (g : Grant) → ((p : Place) → places_hold run judged p ≡ true) →
+has_its_place : (run : Run) (judged : Judged) (g : Grant) → ((p : Place) → places_hold run judged p ≡ true) →
     Among g (grants_in judged.lines) →
     has_place run g.round g.channel ≡ true
 has_its_place run judged g places among =

@@ -1,168 +1,63 @@
 -- What a verdict names is the first that is broken.
-use Rattle.std.proofs.Common.{◌≡◌, ℕ, ◌<◌, ◌≤◌, ◌==◌, nat_lt, ◌&&◌, ◌||◌, true, false, Some, refl, sym, subst, inl, inr, arith}
-use Rattle.std.specs.Prelude.{not}
-use Rattle.std.specs.List.{list_all}
-use Rattle.std.proofs.lemmas.Bool.{cases_Bool, cases_lt, and_from, and_left, and_parts, and_right, or_left, eqb-true, le-ltb, ltb-true, ne_eqb, not_from_false}
-use Rattle.us_output.specs.declared.rows.Grant.{Grant}
+use Rattle.std.proofs.Common.{◌≡◌, ℕ, zero, suc, ◌<◌, ◌≤◌, List, [], ◌∷◌, take, Some, refl, ap, sym, subst, inl, inr, arith, rules}
+use Rattle.std.specs.Prelude.{slice_get}
+use Rattle.std.specs.List.{AllByRecursion}
 use Rattle.us_lawful.specs.declared.place.Place.{Place}
-use Rattle.us_lawful.specs.Runs.{Run, Judged, grants_in, is_requested, requested_in}
-use Rattle.us_lawful.specs.Places.{places_hold}
-use Rattle.us_lawful.specs.Credits.{credit_lines_hold, credits_hold, is_credit_at, is_right_credit, sum_holds, sums_hold}
-use Rattle.us_flows.specs.Tables.{has_channel}
-use Rattle.us_flows.specs.Clusters.{table_order}
-use Rattle.us_breaches.specs.Breaches.{IsFirstBreach}
-use Rattle.us_breaches.specs.Order.{goes_before}
+use Rattle.us_lawful.specs.Runs.{Run, Judged}
 use Rattle.us_check.specs.declared.rules.Breach.{Breach}
-use Rattle.us_check.specs.Verdicts.{Activities, CalendarLines, Counts, Credits, Finals, Headings, Holds, IsAnswer, Part, Places, Rates, Regions, parts, rule_of}
-use Rattle.us_check.specs.Named.{HoldsAll, HoldsBefore, IsFirstBroken, RuleHoldsBefore, VerdictsNameTheFirst, number_of}
-use Rattle.us_check.proofs.AmongLemmas.{Among, all_pass, among_filter, each_from_among}
-use Rattle.us_check.proofs.BurstLaws.{has_its_place}
-use Rattle.us_check.proofs.VerdictLaws.{by_either, breach_of}
+use Rattle.us_check.specs.declared.rules.Rule.{Rule}
+use Rattle.us_check.specs.declared.rules.Rule.TheVariants as rule
+use Rattle.us_check.specs.Verdicts.{AreRead, HoldsAll, IsAnswer, IsBroken, IsPartBroken, Part, order_of, parts, rule_of}
+use Rattle.us_check.specs.Named.{IsFirstBroken, RuleHoldsBefore, VerdictsNameTheFirst, number_of}
+use Rattle.us_check.proofs.AmongLemmas.{Among, among_each, among_got}
+use Rattle.us_check.proofs.VerdictLaws.{breach_of, broken_part, by_either, listed, reached}
 
--- Places.
+-- The numbers of parts rise.
 
-round_before : (run : Run) (p place : Place) → goes_before run.tables.channels p place ≡ true → p.round ≤ place.round
-round_before run p place before = elim (cases_Bool (p.round == place.round)) [
-  | inl same ↦ omega (arith, eqb-true p.round place.round same)
-  | inr other ↦ omega (arith, ltb-true p.round place.round (rw other at before))
+abbrev Rise : {X : Type 0} → (X → ℕ) → List X → Type 0
+Rise f [] = Unit {0}
+Rise f (x ∷ xs) = AllByRecursion (λ y. f x ≤ f y) xs × Rise f xs
+
+-- so one of a lower number stands before
+lower_held : {X : Type 0} (f : X → ℕ) (P : X → Type 0) (xs : List X) (n : ℕ) (x y : X) → Rise f xs →
+    slice_get xs n ≡ Some x → Among y xs → f y < f x → AllByRecursion P (take n xs) → P y
+lower_held f P [] n x y rise got never less all = absurd never
+lower_held f P (z ∷ zs) (suc n) x y rise got (inl is) less all = subst P (sym is) all.0
+lower_held f P (z ∷ zs) (suc n) x y rise got (inr later) less all =
+    lower_held f P zs n x y rise.1 got later less all.1
+lower_held f P (z ∷ zs) zero x y rise got (inl is) less all =
+    let same : y ≡ x = cc in
+    absurd (omega (arith, less, ap f same))
+lower_held f P (z ∷ zs) zero x y rise got (inr later) less all =
+    let same : z ≡ x = cc in
+    absurd (omega (arith, less, ap f same, among_each (λ y. f z ≤ f y) zs y rise.0 later))
+
+abbrev part_number : Part → ℕ
+part_number part = number_of (rule_of part)
+
+rising : Rise part_number parts
+rising = search rules
+
+-- Breaches.
+
+held_before : (run : Run) (judged : Judged) (part : Part) (place : Place) → IsPartBroken run judged part place →
+    RuleHoldsBefore run judged (rule_of part) place
+held_before run judged part place is other rule hold = elim (reached run judged part other place is hold) [
+  | inl holds ↦ λ p _. holds p
+  | inr same ↦ rw same is.first.1
 ]
-
--- the rule of credits holds behind the last round, where each line is of a round of the run
-credits_end : (run : Run) (judged : Judged) (place : Place) → ((p : Place) → places_hold run judged p ≡ true) →
-    run.rounds ≤ place.round → credits_hold run judged place ≡ true
-credits_end run judged place places over =
-    and_from (credit_lines_hold run judged place) (sums_hold run judged place)
-    (all_pass (λ g. not (is_credit_at place g) || is_right_credit run judged.lines g) (requested_in judged.lines)
-    (each_from_among (λ g. (not (is_credit_at place g) || is_right_credit run judged.lines g) ≡ true)
-    (requested_in judged.lines) elsewhere))
-    (or_left (not ((place.channel == 0) && nat_lt place.round run.rounds))
-    (list_all (λ turn. not (turn.cluster.flow.id == place.third) || sum_holds run judged.lines place.round turn)
-    (table_order run.tables))
-    (not_from_false ((place.channel == 0) && nat_lt place.round run.rounds)
-    (and_right (place.channel == 0) (nat_lt place.round run.rounds) (le-ltb place.round run.rounds over))))
-  where
-    elsewhere : (g : Grant) → Among g (requested_in judged.lines) →
-        (not (is_credit_at place g) || is_right_credit run judged.lines g) ≡ true
-    elsewhere g among =
-        let has = has_its_place run judged g places
-        (among_filter (λ g. is_requested g.entry) (grants_in judged.lines) g among).0 in
-        let below : g.round < run.rounds = ltb-true g.round run.rounds
-        (and_parts (nat_lt g.round run.rounds) (has_channel run.tables.channels g.channel) has).0 in
-        let other : is_credit_at place g ≡ false =
-        and_left (g.round == place.round) ((g.channel == place.channel) && (g.id == place.third))
-        (ne_eqb g.round place.round (λ same. omega (arith, same, below, over))) in
-        rw other refl
-
--- so where it fails first is in a round of the run,
-credits_inside : (run : Run) (judged : Judged) (place : Place) → ((p : Place) → places_hold run judged p ≡ true) →
-    (credits_hold run judged place ≡ true → ⊥) → place.round < run.rounds
-credits_inside run judged place places fails = elim (cases_lt place.round run.rounds) [
-  | inl inside ↦ inside
-  | inr over ↦ absurd (fails (credits_end run judged place places over))
-]
-
--- and before that are no places of F lines, none of A lines, and none of the U line
-early : (run : Run) (p place : Place) → place.round < run.rounds → goes_before run.tables.channels p place ≡ true →
-    (p.round == run.rounds) ≡ false
-early run p place inside before =
-    ne_eqb p.round run.rounds (λ same. omega (arith, same, inside, round_before run p place before))
-
-finals_early : (run : Run) (judged : Judged) (place : Place) → place.round < run.rounds →
-    HoldsBefore run judged Finals place
-finals_early run judged place inside p before = rw (early run p place inside before) refl
-
-activities_early : (run : Run) (judged : Judged) (place : Place) → place.round < run.rounds →
-    HoldsBefore run judged Activities place
-activities_early run judged place inside p before = rw (early run p place inside before) refl
-
-counts_early : (run : Run) (judged : Judged) (place : Place) → place.round < run.rounds →
-    HoldsBefore run judged Counts place
-counts_early run judged place inside p before = rw (early run p place inside before) refl
-
--- Parts.
-
--- the parts of rules of a number below n hold, where each that there is holds
-lower_parts : (run : Run) (judged : Judged) (n : ℕ) → (2 < n → HoldsAll run judged Headings) →
-    (3 < n → HoldsAll run judged Places × HoldsAll run judged Regions) → (4 < n → HoldsAll run judged CalendarLines) →
-    (5 < n → HoldsAll run judged Rates) → n ≤ 6 → (part : Part) → number_of (rule_of part) < n →
-    HoldsAll run judged part
-lower_parts run judged n headings minislots lines rates last Headings below = headings below
-lower_parts run judged n headings minislots lines rates last Places below = (minislots below).0
-lower_parts run judged n headings minislots lines rates last Regions below = (minislots below).1
-lower_parts run judged n headings minislots lines rates last CalendarLines below = lines below
-lower_parts run judged n headings minislots lines rates last Rates below = rates below
-lower_parts run judged n headings minislots lines rates last Credits below = absurd (omega (arith, below, last))
-lower_parts run judged n headings minislots lines rates last Finals below = absurd (omega (arith, below, last))
-lower_parts run judged n headings minislots lines rates last Activities below = absurd (omega (arith, below, last))
-lower_parts run judged n headings minislots lines rates last Counts below = absurd (omega (arith, below, last))
 
 -- a part that is broken first breaks its rule there
-broken_part : (run : Run) (judged : Judged) (breach : Breach) (part : Part) → breach.rule ≡ rule_of part →
-    IsFirstBreach run.tables.channels (Holds run judged part) (Some breach.place) →
-    ((other : Part) → number_of (rule_of other) < number_of (rule_of part) → HoldsAll run judged other) →
-    RuleHoldsBefore run judged (rule_of part) breach.place → IsFirstBroken run judged breach.rule breach.place
-broken_part run judged breach part is first lower before =
-    subst (λ rule. IsFirstBroken run judged rule breach.place) (sym is) (record {
-      fails = λ all. first.0 (all part refl);
-      lower = lower;
-      before = before;
-    })
-
--- and so does an answer
-first_broken : (run : Run) (judged : Judged) (breach : Breach) → IsAnswer run judged parts (Some breach) →
+first_broken : (run : Run) (judged : Judged) (breach : Breach) → IsAnswer run judged (Some breach) →
     IsFirstBroken run judged breach.rule breach.place
-first_broken run judged breach (inl is) =
-    broken_part run judged breach Headings is.0 is.1
-    (lower_parts run judged 2 (λ n. absurd (omega (arith, n))) (λ n. absurd (omega (arith, n)))
-    (λ n. absurd (omega (arith, n))) (λ n. absurd (omega (arith, n))) (omega arith))
-    is.1.1
-first_broken run judged breach (inr (headings, inl is)) =
-    broken_part run judged breach Places is.0 is.1
-    (lower_parts run judged 3 (λ _. headings) (λ n. absurd (omega (arith, n))) (λ n. absurd (omega (arith, n)))
-    (λ n. absurd (omega (arith, n))) (omega arith))
-    (is.1.1, λ all. absurd (is.1.0 (all breach.place)))
-first_broken run judged breach (inr (headings, inr (places, inl is))) =
-    broken_part run judged breach Regions is.0 is.1
-    (lower_parts run judged 3 (λ _. headings) (λ n. absurd (omega (arith, n))) (λ n. absurd (omega (arith, n)))
-    (λ n. absurd (omega (arith, n))) (omega arith))
-    (λ p _. places p, λ _. is.1.1)
-first_broken run judged breach (inr (headings, inr (places, inr (regions, inl is)))) =
-    broken_part run judged breach CalendarLines is.0 is.1
-    (lower_parts run judged 4 (λ _. headings) (λ _. (places, regions)) (λ n. absurd (omega (arith, n)))
-    (λ n. absurd (omega (arith, n))) (omega arith))
-    is.1.1
-first_broken run judged breach (inr (headings, inr (places, inr (regions, inr (lines, inl is))))) =
-    broken_part run judged breach Rates is.0 is.1
-    (lower_parts run judged 5 (λ _. headings) (λ _. (places, regions)) (λ _. lines) (λ n. absurd (omega (arith, n)))
-    (omega arith))
-    is.1.1
-first_broken run judged breach (inr (headings, inr (places, inr (regions, inr (lines, inr (rates, inl is)))))) =
-    let inside : breach.place.round < run.rounds = credits_inside run judged breach.place places is.1.0 in
-    broken_part run judged breach Credits is.0 is.1
-    (lower_parts run judged 6 (λ _. headings) (λ _. (places, regions)) (λ _. lines) (λ _. rates) (omega arith)) (
-      is.1.1,
-      finals_early run judged breach.place inside,
-      λ _.
-          (activities_early run judged breach.place inside, λ _. counts_early run judged breach.place inside),
-    )
-first_broken run judged breach
-    (inr (headings, inr (places, inr (regions, inr (lines, inr (rates, inr (credits, inl is))))))) =
-    broken_part run judged breach Finals is.0 is.1
-    (lower_parts run judged 6 (λ _. headings) (λ _. (places, regions)) (λ _. lines) (λ _. rates) (omega arith))
-    (λ p _. credits p, is.1.1, λ all. absurd (is.1.0 (all breach.place)))
-first_broken run judged breach
-    (inr (headings, inr (places, inr (regions, inr (lines, inr (rates, inr (credits, inr (finals, inl is)))))))) =
-    broken_part run judged breach Activities is.0 is.1
-    (lower_parts run judged 6 (λ _. headings) (λ _. (places, regions)) (λ _. lines) (λ _. rates) (omega arith))
-    (λ p _. credits p, λ p _. finals p, λ _. (is.1.1, λ all. absurd (is.1.0 (all breach.place))))
-first_broken run judged breach
-    (inr (headings, inr (places, inr (regions, inr (lines, inr (rates, inr (credits, inr (finals, inr (activities, inl is))))))))) =
-    broken_part run judged breach Counts is.0 is.1
-    (lower_parts run judged 6 (λ _. headings) (λ _. (places, regions)) (λ _. lines) (λ _. rates) (omega arith))
-    (λ p _. credits p, λ p _. finals p, λ _. (λ p _. activities p, λ _. is.1.1))
-first_broken run judged breach
-    (inr (headings, inr (places, inr (regions, inr (lines, inr (rates, inr (credits, inr (finals, inr (activities, inr last))))))))) =
-    absurd last.1
+first_broken run judged breach is =
+    let broken = broken_part run judged breach is in
+    subst (λ rule. IsFirstBroken run judged rule breach.place) (sym broken.1) (record {
+      fails = λ all. broken.2.first.0 (all broken.0 refl);
+      lower = λ other less. lower_held part_number (HoldsAll run judged) parts (order_of broken.0) broken.0 other rising
+          (listed broken.0) (among_got parts (order_of other) other (listed other)) less broken.2.earlier;
+      before = held_before run judged broken.0 breach.place broken.2;
+    })
 
 pub verdicts_name_the_first : VerdictsNameTheFirst
 verdicts_name_the_first run maps report rule round channel third other is =
@@ -170,3 +65,29 @@ verdicts_name_the_first run maps report rule round channel third other is =
       | inl bad ↦ absurd (other bad.0)
       | inr told ↦ (told.0, told.1, first_broken run told.0 (breach_of rule round channel third) told.2)
     ]
+
+-- No part is of the rule of records.
+two_up : AllByRecursion (λ part. 2 ≤ part_number part) parts
+two_up = search rules
+
+never_records : (part : Part) → rule.Records ≡ rule_of part → ⊥
+never_records part same =
+    omega (
+      arith,
+      ap number_of same,
+      among_each (λ part. 2 ≤ part_number part) parts part two_up
+          (among_got parts (order_of part) part (listed part)),
+    )
+
+-- So a rule that a part breaks is broken by what was read.
+pub broken_by_parts : (run : Run) (maps report : List ℕ) (judged : Judged) → AreRead maps report judged →
+    (of : Rule) (place : Place) → IsAnswer run judged (Some (record { rule = of; place = place })) →
+    IsBroken run maps report (record { rule = of; place = place }) of
+broken_by_parts run maps report judged read rule.Records place is =
+    let broken = broken_part run judged (record { rule = rule.Records; place = place }) is in
+    absurd (never_records broken.0 broken.1)
+broken_by_parts run maps report judged read rule.Headings place is = (judged, read, is)
+broken_by_parts run maps report judged read rule.Minislots place is = (judged, read, is)
+broken_by_parts run maps report judged read rule.Occurrences place is = (judged, read, is)
+broken_by_parts run maps report judged read rule.Rates place is = (judged, read, is)
+broken_by_parts run maps report judged read rule.Credits place is = (judged, read, is)

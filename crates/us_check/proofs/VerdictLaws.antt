@@ -1,6 +1,8 @@
 -- Two texts have one answer, and it is `holds` where they are lawful.
-use Rattle.std.proofs.Common.{◌≡◌, ◌≢◌, ◌⊎◌, ℕ, Bool, true, false, List, [], ◌∷◌, Some, Result, Ok, Err, refl, ap, ap₂, sym, subst, ◌∙◌, inl, inr}
-use Rattle.std.proofs.lemmas.Bool.{cases_Bool}
+use Rattle.std.proofs.Common.{◌≡◌, ◌≢◌, ◌⊎◌, ℕ, zero, suc, ◌<◌, Bool, true, false, List, [], ◌∷◌, take, get_or, Some, Result, Ok, Err, refl, ap, ap₂, sym, subst, ◌∙◌, inl, inr, arith}
+use Rattle.std.specs.Prelude.{slice_get}
+use Rattle.std.specs.List.{AllByRecursion}
+use Rattle.std.proofs.lemmas.Bool.{cases_Bool, cases_lt}
 use Rattle.us_output.specs.declared.rows.Row.{Row}
 use Rattle.us_lawful.specs.declared.judged.RoundMap.{RoundMap}
 use Rattle.us_lawful.specs.declared.place.Place.{Place}
@@ -11,6 +13,7 @@ use Rattle.us_lawful.specs.Reports.{IsReport, IsFirstBad}
 use Rattle.us_lawful.proofs.ReportLemmas.{one_reading}
 use Rattle.us_breaches.specs.Breaches.{IsFirstBreach}
 use Rattle.us_breaches.specs.Order.{goes_before}
+use Rattle.us_breaches.proofs.AnyLemmas.{any_where}
 use Rattle.us_breaches.proofs.OrderLemmas.{before-equal}
 use Rattle.us_map_rules.specs.MapsReading.{IsMapsOf, IsFirstBadRecord, OneReadingOfMaps}
 use Rattle.us_check.specs.declared.rules.Breach.{Breach}
@@ -20,7 +23,7 @@ use Rattle.us_check.specs.declared.verdicts.Verdict.{Verdict}
 use Rattle.us_check.specs.declared.verdicts.Verdict.TheVariants as verdicts
 use Rattle.us_check.specs.declared.faults.CheckFault.{CheckFault}
 use Rattle.us_check.specs.declared.faults.CheckFault.TheVariants as fault
-use Rattle.us_check.specs.Verdicts.{Part, Headings, Places, Regions, CalendarLines, Rates, Credits, Finals, Activities, Counts, Holds, IsAnswer, AreRead, IsBroken, Answers, parts}
+use Rattle.us_check.specs.Verdicts.{Part, Headings, Places, Regions, CalendarLines, Rates, Credits, Finals, Activities, Counts, EarlierHold, Holds, HoldsAll, IsAnswer, IsPartBroken, AreRead, IsBroken, Answers, order_of, parts, rule_of}
 use Rattle.us_check.specs.Laws.{HoldsUnlessNoMemory}
 
 -- Readings.
@@ -85,13 +88,20 @@ holds_all run judged lawful Finals p = lawful.finals p
 holds_all run judged lawful Activities p = lawful.activities p
 holds_all run judged lawful Counts p = lawful.counts p
 
--- so none is broken
-never_broken : (run : Run) (judged : Judged) (some : List Part) (breach : Breach) → IsLawful run judged →
-    IsAnswer run judged some (Some breach) → ⊥
-never_broken run judged [] breach lawful never = never
-never_broken run judged (part ∷ more) breach lawful (inl first) =
-    first.1.0 (holds_all run judged lawful part breach.place)
-never_broken run judged (part ∷ more) breach lawful (inr behind) = never_broken run judged more breach lawful behind.1
+-- one part is broken,
+pub broken_part : (run : Run) (judged : Judged) (breach : Breach) → IsAnswer run judged (Some breach) →
+    (part : Part) × (breach.rule ≡ rule_of part) × IsPartBroken run judged part breach.place
+broken_part run judged breach is =
+    let found = any_where (λ part place. (breach.rule ≡ rule_of part) × IsPartBroken run judged part place) parts Headings
+    breach.place is in
+    (get_or parts found.0 Headings, found.2.0, found.2.1)
+
+-- so none is
+never_broken : (run : Run) (judged : Judged) (breach : Breach) → IsLawful run judged →
+    IsAnswer run judged (Some breach) → ⊥
+never_broken run judged breach lawful is =
+    let broken = broken_part run judged breach is in
+    broken.2.first.0 (holds_all run judged lawful broken.0 breach.place)
 
 -- lawful texts are read as something lawful
 are_read : (run : Run) (maps report : List ℕ) (lawful : AreLawful run maps report) → AreRead maps report lawful.judged
@@ -110,7 +120,7 @@ ByRecord maps report breach =
 
 abbrev pub ByParts : Run → List ℕ → List ℕ → Breach → Type 0
 ByParts run maps report breach =
-    (judged : Judged) × AreRead maps report judged × IsAnswer run judged parts (Some breach)
+    (judged : Judged) × AreRead maps report judged × IsAnswer run judged (Some breach)
 
 pub by_either : (run : Run) (maps report : List ℕ) (breach : Breach) (rule : Rule) →
     IsBroken run maps report breach rule →
@@ -128,8 +138,8 @@ not_broken : OneReadingOfMaps → (run : Run) (maps report : List ℕ) (breach :
 not_broken one run maps report breach lawful is = elim (by_either run maps report breach breach.rule is) [
   | inl bad ↦ no_bad_record one maps lawful.judged.maps breach.place.third
       (are_read run maps report lawful).records bad.1.2
-  | inr told ↦ never_broken run lawful.judged parts breach lawful.lawful
-      (subst (λ judged. IsAnswer run judged parts (Some breach))
+  | inr told ↦ never_broken run lawful.judged breach lawful.lawful
+      (subst (λ judged. IsAnswer run judged (Some breach))
       (same_read one maps report told.0 lawful.judged told.1 (are_read run maps report lawful)) told.2)
 ]
 
@@ -153,16 +163,54 @@ one_place run Rule a b first other =
     (is_false (goes_before run.tables.channels a b) (λ before. first.0 (other.1 a before)))
     (is_false (goes_before run.tables.channels b a) (λ before. other.0 (first.1 b before)))
 
+-- what holds of the first so many items does of each of them
+held : {X : Type 0} (P : X → Type 0) (xs : List X) (n count : ℕ) (x : X) → slice_get xs n ≡ Some x → n < count →
+    AllByRecursion P (take count xs) → P x
+held P [] n count x got below all = absurd (cc got)
+held P (y ∷ ys) n zero x got below all = absurd (omega (arith, below))
+held P (y ∷ ys) zero (suc count) x got below all =
+    let is : y ≡ x = cc in
+    subst P is all.0
+held P (y ∷ ys) (suc n) (suc count) x got below all = held P ys n count x got (omega (arith, below)) all.1
+
+pub listed : (part : Part) → slice_get parts (order_of part) ≡ Some part
+listed Headings = refl
+listed Places = refl
+listed Regions = refl
+listed CalendarLines = refl
+listed Rates = refl
+listed Credits = refl
+listed Finals = refl
+listed Activities = refl
+listed Counts = refl
+
+-- a part before which all hold does so too, or is the one that is broken
+pub reached : (run : Run) (judged : Judged) (broken part : Part) (place : Place) → IsPartBroken run judged broken place →
+    EarlierHold run judged part → HoldsAll run judged part ⊎ (part ≡ broken)
+reached run judged broken part place is hold = elim (cases_lt (order_of part) (order_of broken)) [
+  | inl earlier ↦ inl (held (HoldsAll run judged) parts (order_of part) (order_of broken) part (listed part) earlier is.earlier)
+  | inr not ↦ elim (cases_lt (order_of broken) (order_of part)) [
+    | inl later ↦ absurd (is.first.0 (held (HoldsAll run judged) parts (order_of broken) (order_of part) broken (listed broken)
+        later hold place))
+    | inr neither ↦
+        let same : order_of part ≡ order_of broken = omega arith in
+        inr (cc (listed part, listed broken, same))
+  ]
+]
+
 -- so parts have one answer
-one_breach : (run : Run) (judged : Judged) (some : List Part) (a b : Breach) → IsAnswer run judged some (Some a) →
-    IsAnswer run judged some (Some b) → a ≡ b
-one_breach run judged [] a b never other = absurd never
-one_breach run judged (part ∷ more) a b (inl first) (inl other) =
-    ap₂ (λ rule place. record { rule = rule; place = place }) (first.0 ∙ sym other.0)
-    (one_place run (Holds run judged part) a.place b.place first.1 other.1)
-one_breach run judged (part ∷ more) a b (inl first) (inr other) = absurd (first.1.0 (other.0 a.place))
-one_breach run judged (part ∷ more) a b (inr first) (inl other) = absurd (other.1.0 (first.0 b.place))
-one_breach run judged (part ∷ more) a b (inr first) (inr other) = one_breach run judged more a b first.1 other.1
+one_breach : (run : Run) (judged : Judged) (a b : Breach) → IsAnswer run judged (Some a) →
+    IsAnswer run judged (Some b) → a ≡ b
+one_breach run judged a b is_a is_b =
+    let first = broken_part run judged a is_a in
+    let other = broken_part run judged b is_b in
+    elim (reached run judged first.0 other.0 a.place first.2 other.2.earlier) [
+      | inl holds ↦ absurd (other.2.first.0 (holds b.place))
+      | inr same ↦ ap₂ (λ rule place. record { rule = rule; place = place })
+          (first.1 ∙ ap rule_of (sym same) ∙ sym other.1)
+          (one_place run (Holds run judged first.0) a.place b.place first.2.first
+          (subst (λ part. IsFirstBreach run.tables.channels (Holds run judged part) (Some b.place)) same other.2.first))
+    ]
 
 -- and two texts one breach
 same_breach : OneReadingOfMaps → (run : Run) (maps report : List ℕ) (a b : Breach) →
@@ -179,8 +227,8 @@ same_breach one run maps report a b is other =
       ]
       | inr told ↦ elim (by_either run maps report b b.rule other) [
         | inl worse ↦ absurd (no_bad_record one maps told.0.maps b.place.third told.1.records worse.1.2)
-        | inr again ↦ one_breach run again.0 parts a b
-            (subst (λ judged. IsAnswer run judged parts (Some a))
+        | inr again ↦ one_breach run again.0 a b
+            (subst (λ judged. IsAnswer run judged (Some a))
             (same_read one maps report told.0 again.0 told.1 again.1) told.2) again.2
       ]
     ]

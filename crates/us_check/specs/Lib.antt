@@ -4,6 +4,8 @@
 
 -- what a verdict says of two texts
 pub mod Verdicts
+-- what a judge is told of lines
+pub mod Judges
 -- laws: what a verdict names is the first that is broken
 pub mod Named
 -- laws: two texts have one answer, and those that are lawful hold

@@ -1,5 +1,6 @@
 -- What is answered of a maps file and a report.
-use Rattle.std.specs.Prelude.{◌≡◌, ◌⊎◌, ℕ, true, List, [], ◌∷◌, ◌++◌, codes, Option, Some, None, Result, Ok, Err}
+use Rattle.std.specs.Prelude.{◌≡◌, ℕ, true, List, [], ◌∷◌, ◌++◌, codes, take, Option, Some, None, Result, Ok, Err}
+use Rattle.std.specs.List.{AllByRecursion}
 use Rattle.std.specs.Fmt.{decimal}
 use Rattle.us_output.specs.declared.rows.Row.{Row}
 use Rattle.us_lawful.specs.declared.place.Place.{Place}
@@ -13,7 +14,7 @@ use Rattle.us_lawful.specs.Credits.{credits_hold}
 use Rattle.us_lawful.specs.Finals.{finals_hold, activities_hold, counts_hold}
 use Rattle.us_lawful.specs.Texts.{AreLawful}
 use Rattle.us_lawful.specs.Reports.{IsReport, IsFirstBad}
-use Rattle.us_breaches.specs.Breaches.{IsFirstBreach}
+use Rattle.us_breaches.specs.Breaches.{Any, IsFirstBreach}
 use Rattle.us_map_rules.specs.MapsReading.{IsMapsOf, IsFirstBadRecord}
 use Rattle.us_check.specs.declared.rules.Breach.{Breach}
 use Rattle.us_check.specs.declared.rules.Rule.{Rule}
@@ -68,18 +69,39 @@ Holds run judged Finals p = finals_hold run judged p ≡ true
 Holds run judged Activities p = activities_hold run judged p ≡ true
 Holds run judged Counts p = counts_hold run judged p ≡ true
 
--- all parts in order
+-- all parts, in the order in which they are looked at, and the place of one in it
 abbrev pub parts : List Part
 parts = Headings ∷ Places ∷ Regions ∷ CalendarLines ∷ Rates ∷ Credits ∷ Finals ∷ Activities ∷ Counts ∷ []
 
--- the answer of some parts: none is broken; or the first that is, of this rule, is broken first at this place
-abbrev pub IsAnswer : Run → Judged → List Part → Option Breach → Type 0
-IsAnswer run judged [] None = Unit {0}
-IsAnswer run judged [] (Some breach) = ⊥
-IsAnswer run judged (part ∷ more) None = ((p : Place) → Holds run judged part p) × IsAnswer run judged more None
-IsAnswer run judged (part ∷ more) (Some breach) =
-    ((breach.rule ≡ rule_of part) × IsFirstBreach run.tables.channels (Holds run judged part) (Some breach.place))
-    ⊎ (((p : Place) → Holds run judged part p) × IsAnswer run judged more (Some breach))
+abbrev pub order_of : Part → ℕ
+order_of Headings = 0
+order_of Places = 1
+order_of Regions = 2
+order_of CalendarLines = 3
+order_of Rates = 4
+order_of Credits = 5
+order_of Finals = 6
+order_of Activities = 7
+order_of Counts = 8
+
+-- a part holds at all places,
+abbrev pub HoldsAll : Run → Judged → Part → Type 0
+HoldsAll run judged part = (p : Place) → Holds run judged part p
+
+-- and so do those before one
+abbrev pub EarlierHold : Run → Judged → Part → Type 0
+EarlierHold run judged part = AllByRecursion (HoldsAll run judged) (take (order_of part) parts)
+
+-- a part is broken first at a place, and those before it hold
+pub record IsPartBroken (run : Run) (judged : Judged) (part : Part) (place : Place) : Type 0 where
+  pub earlier : EarlierHold run judged part
+  pub first : IsFirstBreach run.tables.channels (Holds run judged part) (Some place)
+
+-- the answer of all parts: each holds, or one of this rule is broken at this place
+abbrev pub IsAnswer : Run → Judged → Option Breach → Type 0
+IsAnswer run judged None = AllByRecursion (HoldsAll run judged) parts
+IsAnswer run judged (Some breach) =
+    Any (λ part place. (breach.rule ≡ rule_of part) × IsPartBroken run judged part place) parts breach.place
 
 -- what two texts have, read as records of MAPs and as lines
 pub record AreRead (maps report : List ℕ) (judged : Judged) : Type 0 where
@@ -93,7 +115,7 @@ IsBroken run maps report breach rules.Records =
     (breach.place.round ≡ 0) × (breach.place.channel ≡ 0) × IsFirstBadRecord maps breach.place.third
     × (lines : List Row) × IsReport report lines
 IsBroken run maps report breach _ =
-    (judged : Judged) × AreRead maps report judged × IsAnswer run judged parts (Some breach)
+    (judged : Judged) × AreRead maps report judged × IsAnswer run judged (Some breach)
 
 -- what is answered of a maps file and a report; of want of memory this says nothing
 abbrev pub Answers : Run → List ℕ → List ℕ → Result Verdict CheckFault → Type 0

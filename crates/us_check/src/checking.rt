@@ -1,19 +1,20 @@
-ghost use Rattle.std.specs.Prelude.{◌≡◌, true};
+ghost use Rattle.std.specs.Prelude.{◌≡◌, true, IfOk};
 ghost use Rattle.us_flows.specs.Tables.{rounds_fit};
 ghost use Rattle.us_lawful.specs.Runs.{run_in};
 ghost use Rattle.us_check.specs.Verdicts.{Answers};
+ghost use Rattle.us_check.specs.Judges.{IsMapsVerdict};
 ghost use Rattle.us_check.specs.declared.rules.Rule.TheVariants as rules;
 ghost use Rattle.us_check.specs.declared.verdicts.Verdict.TheVariants as verdicts;
 
 use crate::faults::CheckFault;
-use crate::judging::first_breach;
-use crate::rules::Rule;
+use crate::judging::{lines_breach, read_lines};
+use crate::rules::{Breach, Rule};
 use crate::verdicts::Verdict;
 use std::alloc::Global;
 use us_flows::Config;
-use us_lawful::{Judged, report_rows};
-use us_map_rules::{MapsFault, read_maps};
+use us_map_rules::{MapsFault, headings_breach};
 use us_requests::Trace;
+use us_slots::NoMemory;
 
 /// Judges a maps file and a report, whoever made them, against the tables of a configuration and the requests of a
 /// trace that was read with it.
@@ -30,16 +31,34 @@ pub fn check(
     requires { rounds_fit config.now trace.now.rounds ≡ true }
     ensures { Answers (run_in config.now trace.now) maps.now report.now result }
 {
-    let lines = report_rows(alloc, report)?;
-    let maps = match read_maps(alloc, maps) {
-        Ok(maps) => maps,
-        Err(MapsFault::Record(index)) => return Ok(bad_record(index)),
-        Err(MapsFault::NoMemory) => return Err(CheckFault::NoMemory),
-    };
-    let judged = Judged::new(maps, lines);
-    match first_breach(alloc, config, trace, &judged)? {
+    if let Some(verdict) = maps_verdict(alloc, config, trace, maps)? {
+        read_lines(report)?;
+        return Ok(verdict);
+    }
+    match lines_breach(alloc, config, trace, maps, report)? {
         None => Ok(Verdict::Holds),
-        Some(breach) => Ok(Verdict::from(breach)),
+        Some((rule, place)) => Ok(Verdict::from(Breach { rule, place })),
+    }
+}
+
+/// The verdict on a maps file that breaks a rule by itself, whatever the report tells: P1 or P2.
+fn maps_verdict(
+    alloc: Global,
+    config: &Config,
+    trace: &Trace,
+    maps: &[u8],
+) -> Result<Option<Verdict>, NoMemory>
+    requires { rounds_fit config.now trace.now.rounds ≡ true }
+    ensures { IfOk result (IsMapsVerdict (run_in config.now trace.now) maps.now) }
+{
+    match headings_breach(alloc, config, trace, maps) {
+        Ok(None) => Ok(None),
+        Ok(Some(place)) => Ok(Some(Verdict::from(Breach {
+            rule: Rule::Headings,
+            place,
+        }))),
+        Err(MapsFault::Record(index)) => Ok(Some(bad_record(index))),
+        Err(MapsFault::NoMemory) => Err(NoMemory),
     }
 }
 

@@ -1,6 +1,7 @@
 ghost use Rattle.std.specs.Prelude.{◌≡◌};
 ghost use Rattle.us_check.specs.Faults as spec;
 
+use std::alloc::AllocFailed;
 use std::fmt;
 use thiserror::Error;
 use us_lawful::ReportFault;
@@ -64,6 +65,17 @@ impl From<NoMemory> for CheckFault {
     ghost from_gives = { λ _ given. given ≡ fault.NoMemory };
 
     fn from(_refused: NoMemory) -> CheckFault {
+        CheckFault::NoMemory
+    }
+}
+
+impl<T: Drop> From<AllocFailed<T>> for CheckFault {
+    ghost use Rattle.std.specs.Prelude.{◌≡◌};
+    ghost use Rattle.us_check.specs.declared.faults.CheckFault.TheVariants as fault;
+
+    ghost from_gives = { λ _ given. given ≡ fault.NoMemory };
+
+    fn from(_refused: AllocFailed<T>) -> CheckFault {
         CheckFault::NoMemory
     }
 }

@@ -1,84 +1,206 @@
-ghost use Rattle.std.specs.Prelude.{◌≡◌, true, IfOk};
+ghost use Rattle.std.specs.Prelude.{◌≡◌, ◌++◌, [], List, length, true, option_map, option_to_list, OnOk, IfOk};
 ghost use Rattle.us_flows.specs.Tables.{rounds_fit};
+ghost use Rattle.us_output.specs.declared.rows.Row.{Row as ReportRow};
+ghost use Rattle.us_lawful.specs.declared.judged.RoundMap.{RoundMap};
 ghost use Rattle.us_lawful.specs.Runs.{run_in};
-ghost use Rattle.us_check.specs.Verdicts.{IsAnswer, parts};
+ghost use Rattle.us_lawful.specs.Reports.{IsLinesEnd, IsReport};
+ghost use Rattle.us_lawful.specs.Headings.{HeadingsHold};
+ghost use Rattle.us_breaches.specs.Breaches.{IsFirstBreach};
+ghost use Rattle.us_map_rules.specs.MapsReading.{IsMapsOf};
+ghost use Rattle.us_check.specs.Judges as spec;
+ghost use Rattle.us_check.specs.Verdicts.{IsAnswer};
 
-use crate::rules::{Breach, Rule};
+use crate::faults::CheckFault;
+use crate::judges::Judge;
+use crate::rules::Rule;
 use std::alloc::Global;
-use us_calendar_rules::calendar_lines_breach;
-use us_credit_rules::{
-    Accounts, activities_breach, counts_breach, credits_breach, finals_breach, rates_breach,
-};
 use us_flows::Config;
-use us_lawful::Judged;
-use us_map_rules::{headings_breach, places_breach, regions_breach};
+use us_lawful::{Place, line_at, lines_end};
+use us_map_rules::map_of;
 use us_requests::Trace;
 use us_slots::NoMemory;
 
-/// The first rule that is broken, and where it is broken first.
-pub(crate) fn first_breach(
+/// Reads all lines of a report, and keeps nothing of them.
+pub(crate) fn read_lines(report: &[u8]) -> Result<(), CheckFault>
+    ensures { spec.Reads report.now (λ _. (lines : List ReportRow) × IsReport report.now lines) result }
+{
+    let end = lines_end(report);
+    let mut number = 0;
+    let mut at = 0;
+    while at < report.len() {
+        number += 1;
+        let Some((_, behind)) = line_at(report, end, at) else {
+            return Err(CheckFault::Report(number));
+        };
+        at = behind;
+    }
+    Ok(())
+}
+
+/// The first rule of P3 to P6 that is broken by the lines of a report, and where it is broken first.
+pub(crate) fn lines_breach(
     alloc: Global,
     config: &Config,
     trace: &Trace,
-    judged: &Judged,
-) -> Result<Option<Breach>, NoMemory>
-    requires { rounds_fit config.now trace.now.rounds ≡ true }
-    ensures { IfOk result (IsAnswer (run_in config.now trace.now) judged.now parts) }
+    maps: &[u8],
+    report: &[u8],
+) -> Result<Option<(Rule, Place)>, CheckFault>
+    requires rounds { rounds_fit config.now trace.now.rounds ≡ true }
+    requires maps { (ms : List RoundMap) × IsMapsOf maps.now ms }
+    ensures { spec.Reads report.now (λ first. (ms : List RoundMap) → IsMapsOf maps.now ms →
+        ((lines : List ReportRow) → IsFirstBreach config.now.channels
+        (HeadingsHold (run_in config.now trace.now) (record { maps = ms; lines = lines })) None) →
+        (lines : List ReportRow) × IsReport report.now lines
+        × IsAnswer (run_in config.now trace.now) (record { maps = ms; lines = lines })
+        (option_map (λ b. record { rule = b.0; place = b.1 }) first)) result }
 {
-    if let Some(place) = headings_breach(config, trace, judged) {
-        return Ok(Some(Breach {
-            rule: Rule::Headings,
-            place,
-        }));
+    let mut judge = told_judge(alloc, config, trace, maps, report)?;
+    Ok(judge.breach(alloc, config, trace, maps)?)
+}
+
+/// A judge that is told the lines of a report.
+fn told_judge<'a>(
+    alloc: Global,
+    config: &'a Config,
+    trace: &'a Trace,
+    maps: &[u8],
+    report: &[u8],
+) -> Result<Judge<'a>, CheckFault>
+    requires rounds { rounds_fit config.now trace.now.rounds ≡ true }
+    requires maps { (ms : List RoundMap) × IsMapsOf maps.now ms }
+    ensures { spec.Reads report.now (λ judge. (ms : List RoundMap) → IsMapsOf maps.now ms →
+        spec.IsOfReport config.now trace.now maps.now report.now ms judge) result }
+{
+    let mut judge = Judge::new(alloc, config, trace)?;
+    if take_in_order(&mut judge, config, trace, maps, report)? {
+        return Ok(judge);
     }
-    if let Some(place) = places_breach(config, trace, judged) {
-        return Ok(Some(Breach {
-            rule: Rule::Minislots,
-            place,
-        }));
+    let standings = standings(alloc, config, trace, report)?;
+    let mut sorted = Judge::new(alloc, config, trace)?;
+    take_sorted(&mut sorted, config, trace, maps, report, &standings)?;
+    Ok(sorted)
+}
+
+/// Tells a judge the lines of a report as they stand, up to the first that comes too late. Answers whether that were all.
+fn take_in_order(
+    judge: &mut Judge,
+    config: &Config,
+    trace: &Trace,
+    maps: &[u8],
+    report: &[u8],
+) -> Result<bool, CheckFault>
+    requires { (ms : List RoundMap) × spec.AreTold config.now trace.now maps.now ms [] judge.old }
+    ensures { spec.Reads report.now (λ all. all ≡ true → (ms : List RoundMap) →
+        spec.AreTold config.now trace.now maps.now ms [] judge.old →
+        (lines : List ReportRow) × IsReport report.now lines
+        × spec.AreTold config.now trace.now maps.now ms lines judge.new) result }
+{
+    let end = lines_end(report);
+    let mut number = 0;
+    let mut at = 0;
+    while at < report.len() {
+        number += 1;
+        let Some((row, behind)) = line_at(report, end, at) else {
+            return Err(CheckFault::Report(number));
+        };
+        if !judge.take(config, trace, maps, &row)? {
+            return Ok(false);
+        }
+        at = behind;
     }
-    if let Some(place) = regions_breach(alloc, config, trace, judged)? {
-        return Ok(Some(Breach {
-            rule: Rule::Minislots,
-            place,
-        }));
+    Ok(true)
+}
+
+/// Where a line stands in a report, and the number of the MAP that it is for, or 0.
+#[derive(Clone, Copy)]
+pub(crate) struct Standing {
+    pub(crate) map: u64,
+    pub(crate) at: usize,
+}
+
+/// Where the lines of a report stand, in the order of MAPs.
+fn standings(
+    alloc: Global,
+    config: &Config,
+    trace: &Trace,
+    report: &[u8],
+) -> Result<Vec<Standing>, CheckFault>
+    ensures { spec.Reads report.now (λ all. spec.AreStandings report.now all.items) result }
+{
+    let mut standings = standings_as_read(alloc, config, trace, report)?;
+    standings.sort_unstable_by_key(|standing| standing.map);
+    Ok(standings)
+}
+
+/// The same in the order of the report.
+fn standings_as_read(
+    alloc: Global,
+    config: &Config,
+    trace: &Trace,
+    report: &[u8],
+) -> Result<Vec<Standing>, CheckFault>
+    ensures { spec.Reads report.now (λ all. IsReport report.now (spec.lines_there report.now all.items)) result }
+{
+    let end = lines_end(report);
+    let mut standings = Vec::new(alloc);
+    let mut at = 0;
+    while at < report.len() {
+        let Some((row, behind)) = line_at(report, end, at) else {
+            return Err(CheckFault::Report(standings.len() as u64 + 1));
+        };
+        let map = map_of(config, trace, &row).unwrap_or(0);
+        standings.push(Standing { map, at })?;
+        at = behind;
     }
-    if let Some(place) = calendar_lines_breach(alloc, config, trace, judged)? {
-        return Ok(Some(Breach {
-            rule: Rule::Occurrences,
-            place,
-        }));
+    Ok(standings)
+}
+
+/// Tells a judge the lines of a report that stand at these places.
+fn take_sorted(
+    judge: &mut Judge,
+    config: &Config,
+    trace: &Trace,
+    maps: &[u8],
+    report: &[u8],
+    standings: &[Standing],
+) -> Result<(), NoMemory>
+    requires { (ms : List RoundMap) × spec.AreTold config.now trace.now maps.now ms [] judge.old }
+    ensures { OnOk result ((ms : List RoundMap) → spec.AreTold config.now trace.now maps.now ms [] judge.old →
+        spec.AreTold config.now trace.now maps.now ms (spec.lines_there report.now standings.now) judge.new) }
+{
+    let end = lines_end(report);
+    for standing in standings {
+        take_at(judge, config, trace, maps, report, end, standing.at)?;
     }
-    let accounts = Accounts::new(alloc, config, trace, judged)?;
-    if let Some(place) = rates_breach(config, trace, judged, &accounts) {
-        return Ok(Some(Breach {
-            rule: Rule::Rates,
-            place,
-        }));
+    Ok(())
+}
+
+/// Tells a judge the line of a report that stands at a place, if one does. No line is behind those of later MAPs: one that
+/// were would be answered as want of memory.
+fn take_at(
+    judge: &mut Judge,
+    config: &Config,
+    trace: &Trace,
+    maps: &[u8],
+    report: &[u8],
+    end: usize,
+    at: usize,
+) -> Result<(), NoMemory>
+    requires end { IsLinesEnd report.now end }
+    requires told { (ms : List RoundMap) × (lines : List ReportRow)
+        × spec.AreTold config.now trace.now maps.now ms lines judge.old }
+    ensures { OnOk result ((ms : List RoundMap) (lines : List ReportRow) →
+        spec.AreTold config.now trace.now maps.now ms lines judge.old →
+        spec.AreTold config.now trace.now maps.now ms (lines ++ option_to_list (spec.line_there report.now at)) judge.new) }
+{
+    match line_at(report, end, at) {
+        None => Ok(()),
+        Some((row, _)) => {
+            if judge.take(config, trace, maps, &row)? {
+                Ok(())
+            } else {
+                Err(NoMemory)
+            }
+        }
     }
-    if let Some(place) = credits_breach(config, trace, judged, &accounts) {
-        return Ok(Some(Breach {
-            rule: Rule::Credits,
-            place,
-        }));
-    }
-    if let Some(place) = finals_breach(alloc, config, trace, judged, &accounts)? {
-        return Ok(Some(Breach {
-            rule: Rule::Credits,
-            place,
-        }));
-    }
-    if let Some(place) = activities_breach(alloc, config, trace, judged)? {
-        return Ok(Some(Breach {
-            rule: Rule::Credits,
-            place,
-        }));
-    }
-    if let Some(place) = counts_breach(config, trace, judged) {
-        return Ok(Some(Breach {
-            rule: Rule::Credits,
-            place,
-        }));
-    }
-    Ok(None)
 }

@@ -20,7 +20,10 @@ mod verdicts;
 // Why nothing is answered.
 mod faults;
 
-// The first rule that is broken, of what was read.
+// The rules that judge lines,
+mod judges;
+
+// told the lines of a report.
 mod judging;
 
 // The checker.

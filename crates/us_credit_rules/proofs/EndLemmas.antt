@@ -64,7 +64,7 @@ module _ {X Y : Type 0} (id : X → ℕ) (holds : X → Bool) (other_id : Y → 
   abbrev second_test : ℕ → Bool
   second_test third = list_all (λ y. if other_id y == third then other_holds y else true) ys
 
-  abbrev pub end_test : Place → Bool
+  abbrev end_test : Place → Bool
   end_test p =
       if (p.round == rounds) && (p.channel == 0) then first_test p.third && second_test p.third else true
 
@@ -97,12 +97,13 @@ module _ {X Y : Type 0} (id : X → ℕ) (holds : X → Bool) (other_id : Y → 
       asked_at p.round rounds p.channel (first_test p.third && second_test p.third) there.0 there.1
       (and_right (first_test p.third) (second_test p.third) (there_all other_id other_holds rounds ys p other))
 
-  -- so the earlier of both is the first
-  pub ends_first : (channels : List Channel) (a b : Option Place) →
-      IsFirstFailure channels (Any (EndFails id holds rounds) xs) a →
+  -- so the earlier of both is the first of a rule that is this test
+  pub ends_first : (rule : Place → Bool) → ((p : Place) → end_test p ≡ rule p) → (channels : List Channel)
+      (a b : Option Place) → IsFirstFailure channels (Any (EndFails id holds rounds) xs) a →
       IsFirstFailure channels (Any (EndFails other_id other_holds rounds) ys) b →
-      IsFirstBreach channels (λ p. end_test p ≡ true) (earlier channels a b)
-  ends_first channels a b first second =
-      holds_first channels end_test (earlier channels a b)
-      (same_places channels BothFail (λ p. end_test p ≡ false) (earlier channels a b) fails_test test_fails
+      IsFirstBreach channels (λ p. rule p ≡ true) (earlier channels a b)
+  ends_first rule same channels a b first second =
+      holds_first channels rule (earlier channels a b)
+      (same_places channels BothFail (λ p. rule p ≡ false) (earlier channels a b)
+      (λ p fails. sym (same p) ∙ fails_test p fails) (λ p fails. test_fails p (same p ∙ fails))
       (joined channels (Any (EndFails id holds rounds) xs) (Any (EndFails other_id other_holds rounds) ys) a b first second))

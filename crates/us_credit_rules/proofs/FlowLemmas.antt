@@ -1,38 +1,65 @@
 -- The buckets of flows, as lines leave them one after another, and what that says of their rates and of what is left.
-use Rattle.std.proofs.Common.{◌≡◌, ℕ, zero, suc, ◌+◌, ◌-◌, ◌*◌, ◌<◌, ◌≤◌, ◌==◌, Bool, true, false, List, [], ◌∷◌, length, get_or, set, map, drop, cond, Bor, Option, Some, None, refl, sym, ap, ap₂, subst, ◌∙◌, inl, inr, arith, eq-eqb, IsPermutation}
-use Rattle.std.specs.Prelude.{◌&&◌, ◌||◌, if◌then◌else◌, not, nat_lt, filter, fold, slice_get}
+use Rattle.std.proofs.Common.{ℕ, ◌≤◌, Bool, List, [], ◌∷◌, ◌++◌, inl, inr, arith, ◌≡◌, zero, suc, ◌+◌, ◌-◌, ◌*◌, ◌<◌, ◌==◌, true, false, length, get_or, set, map, cond, Option, Some, None, refl, sym, ap, ap₂, subst, ◌∙◌, eq-eqb}
+use Rattle.std.specs.Prelude.{filter, ◌&&◌, ◌||◌, if◌then◌else◌, not, nat_lt, fold, slice_get, IfSome}
+use Rattle.std.proofs.lemmas.Bool.{cases_Bool, and_parts, and_right, cases_eq, ltb-true, ne_eqb}
+use Rattle.us_output.specs.declared.rows.Grant.{Grant}
+use Rattle.us_credit_rules.specs.Requests.{RisesTo}
+use Rattle.us_credit_rules.proofs.LedgerLemmas.{AreUpTo, same_first}
+use Rattle.us_credit_rules.proofs.WalkLemmas.{Rising, IsShort, credit_in, has_rounds, left_is, level_behind, rounds_of, rounds_same, short_is, short_round}
 use Rattle.std.specs.List.{AllByRecursion}
-use Rattle.std.specs.List.Sorted.{IsNonDecreasingBy}
 use Rattle.std.specs.Option.{option_or}
-use Rattle.std.proofs.lemmas.Bool.{and_parts, and_right, cases_Bool, cases_eq, ltb-true, ne_eqb}
-use Rattle.std.proofs.lemmas.List.{drop_more, get_or-set_same, get_or-set_other, length-set}
+use Rattle.std.proofs.lemmas.List.{get_or-set_same, get_or-set_other, length-map, length-set}
 use Rattle.std.proofs.lemmas.List.Elements.{filter_agree, filter_passes, recursion_from_All}
-use Rattle.std.proofs.lemmas.List.Kept.{IsNonDecreasingBy-filter}
 use Rattle.us_flows.specs.Tables.{Tables, FlowTable}
 use Rattle.us_flows.specs.Clusters.{Turn, table_order}
 use Rattle.us_flows.specs.Lawful.{AreTables}
 use Rattle.us_bucket.specs.Levels.{Level, full, spent, units_in}
 use Rattle.us_bucket.proofs.LevelLemmas.{refilled-rate, refilled-burst, spent-rate, spent-burst}
 use Rattle.us_requests.specs.Traces.{TraceAsks}
-use Rattle.us_output.specs.declared.rows.Grant.{Grant}
 use Rattle.us_output.specs.declared.rows.Row.{Row}
 use Rattle.us_output.proofs.PartLemmas.{all_weaker}
-use Rattle.us_lawful.specs.Runs.{requested_in, run_in}
-use Rattle.us_lawful.specs.Rates.{flow_credit}
-use Rattle.us_lawful.specs.Finals.{level_left}
+use Rattle.us_lawful.proofs.SameLemmas.{Same}
+use Rattle.us_lawful.specs.Runs.{Run, requested_in, run_in}
+use Rattle.us_lawful.specs.Rates.{flow_credit, flow_rate_holds}
+use Rattle.us_lawful.specs.Finals.{level_left, units_left}
 use Rattle.us_credit_rules.specs.declared.buckets.FlowAccount.{FlowAccount}
 use Rattle.us_credit_rules.specs.Seats.{is_number, place_of}
 use Rattle.us_credit_rules.specs.Shorts.{IsFirstRound, short_then}
-use Rattle.us_credit_rules.specs.Buckets.{IsFlowAccountOf, credited_all, credited_at, credited_by, full_account, has, level_in, no_flow, with_bytes}
+use Rattle.us_credit_rules.specs.Buckets.{credited_all, credited_at, credited_by, full_account, has, level_in, no_flow, units_of, with_bytes}
 use Rattle.us_credit_rules.proofs.CreditLemmas.{flow_credit_is, own_lines}
-use Rattle.us_credit_rules.proofs.OrderLemmas.{rising_from}
 use Rattle.us_credit_rules.proofs.SeatLemmas.{named_place}
 use Rattle.us_credit_rules.proofs.LevelLemmas.{emptied, full-is}
-use Rattle.us_credit_rules.proofs.WalkLemmas.{Rising, credit_in, rounds_of, rounds_same, short_is, short_round}
-use Rattle.us_credit_rules.proofs.LeftLemmas.{left_is, level_behind}
-use Rattle.us_credit_rules.proofs.BoundLemmas.{ends_well}
-use Rattle.us_credit_rules.proofs.LedgerLemmas.{same_first}
-use Rattle.us_credit_rules.proofs.RateLemmas.{first_end, short_inside}
+use Rattle.us_credit_rules.proofs.BoundLemmas.{ends_well, had_ends, lacked_ends}
+
+-- Rounds of lines that don't fall.
+
+rises_end : (from latest : ℕ) (grants : List Grant) → RisesTo from latest grants → from ≤ latest
+rises_end from latest [] rises = rises
+rises_end from latest (g ∷ grants) rises = omega (arith, rises.0, rises_end g.round latest grants rises.1)
+
+-- each is the latest at most
+pub rises_most : (from latest : ℕ) (grants : List Grant) → RisesTo from latest grants → AreUpTo latest grants
+rises_most from latest [] rises = tt
+rises_most from latest (g ∷ grants) rises = (rises_end g.round latest grants rises.1, rises_most g.round latest grants rises.1)
+
+-- with one line more
+pub rises_push : (from latest : ℕ) (grants : List Grant) (g : Grant) → RisesTo from latest grants → latest ≤ g.round →
+    RisesTo from g.round (grants ++ g ∷ [])
+rises_push from latest [] g rises later = (omega (arith, rises, later), omega arith)
+rises_push from latest (first ∷ grants) g rises later = (rises.0, rises_push first.round latest grants g rises.1 later)
+
+-- of those that pass a test
+pub rises_filter : (passes : Grant → Bool) (from latest : ℕ) (grants : List Grant) → RisesTo from latest grants →
+    Rising (λ g. g.round) from (filter passes grants)
+rises_filter passes from latest [] rises = tt
+rises_filter passes from latest (g ∷ grants) rises = elim (cases_Bool (passes g)) [
+  | inl is ↦ rw is (rises.0, rises_filter passes g.round latest grants rises.1)
+  | inr out ↦ rw out (lower from g.round (filter passes grants) rises.0 (rises_filter passes g.round latest grants rises.1))
+]
+  where
+    lower : (a b : ℕ) (grants : List Grant) → a ≤ b → Rising (λ g. g.round) b grants → Rising (λ g. g.round) a grants
+    lower a b [] order rises = tt
+    lower a b (g ∷ grants) order rises = (omega (arith, order, rises.0), rises.1)
 
 -- One account, by the lines of its flow.
 
@@ -132,17 +159,19 @@ module _ (rounds ticks : ℕ) (turns : List Turn) where
                 ∙ ap (λ b. fold (step ticks) here (cond (b && true) (g ∷ rest) rest)) (sym (ne_eqb k place other))
           ]
 
--- one line more of those that are told
-pub line_told : (rounds ticks : ℕ) (turns : List Turn) (lines : List (Bor Grant)) (i : ℕ) (d : Bor Grant)
-    (before after all : List FlowAccount) → i < length lines →
-    after ≡ credited_by rounds ticks turns before (get_or lines i d).now →
-    fold (credited_by rounds ticks turns) before (map (λ g. g.now) (drop i lines)) ≡ all →
-    fold (credited_by rounds ticks turns) after (map (λ g. g.now) (drop (i + 1) lines)) ≡ all
-line_told rounds ticks turns lines i d before after all inside is told =
-    ap (λ these. fold (credited_by rounds ticks turns) these (map (λ (g : Bor Grant). g.now) (drop (i + 1) lines))) is
-    ∙ ap (λ these. fold (credited_by rounds ticks turns) before (map (λ (g : Bor Grant). g.now) these))
-    (sym (drop_more lines i d inside))
-    ∙ told
+pub all_long : (rounds ticks : ℕ) (turns : List Turn) (grants : List Grant) →
+    length (credited_all rounds ticks turns grants) ≡ length turns
+all_long rounds ticks turns grants =
+    kept grants (map full_turn turns) ∙ length-map turns full_turn
+  where
+    full_turn : Turn → FlowAccount
+    full_turn turn = full_account turn.cluster.flow.rate turn.cluster.flow.burst
+
+    kept : (grants : List Grant) (flows : List FlowAccount) →
+        length (fold (credited_by rounds ticks turns) flows grants) ≡ length flows
+    kept [] flows = refl
+    kept (g ∷ grants) flows =
+        kept grants (credited_by rounds ticks turns flows g) ∙ same_length rounds ticks turns g flows
 
 -- Of tables.
 
@@ -172,13 +201,55 @@ mapped f (y ∷ xs) (suc i) x d at =
     let rest = mapped f xs i x d at in
     (rest.0, omega (arith, rest.1))
 
+-- What an account says: the first round that ends a span of too many bytes, where there is a limit, and what is left in the
+-- bucket.
+pub record IsFlowAccountOf (run : Run) (lines : List Row) (flow : FlowTable) (a : FlowAccount) : Type 0 where
+  pub short : 0 < flow.rate →
+      IsFirstRound run.rounds (λ round. flow_rate_holds run (record { maps = []; lines = lines }) round flow) a.short
+  pub left : units_of run.tables.round_ticks (run.rounds - 1) a ≡ units_left run lines flow
+
+-- the answer is a round of the lines
+pub short_inside : (rounds ticks from : ℕ) (l : Level) (lines : List Grant) → AllByRecursion (λ m. m.round < rounds) lines →
+    IfSome (short_round ticks from l lines) (λ round. round < rounds)
+short_inside rounds ticks from l [] inside = tt
+short_inside rounds ticks from l (m ∷ lines) inside =
+    let now : Level = level_in ticks from l m.round in
+    elim (cases_Bool (has now m.credit)) [
+      | inl there ↦ rw there (short_inside rounds ticks m.round (spent m.credit now) lines inside.1)
+      | inr short ↦ rw short inside.0
+    ]
+
+-- the first round of a run that ends a span of too many bytes
+module _ (t : Tables) (flow : FlowTable) (f g : ℕ → ℕ) (rounds : ℕ) (some : 0 < flow.rate)
+    (same : (k : ℕ) → k < rounds → f k ≡ g k) where
+  pub first_end : (lines : List Grant) (answer : Option ℕ) → g ≡ credit_in lines →
+      IsShort t.round_ticks 0 (full flow.rate flow.burst) lines answer → IfSome answer (λ round. round < rounds) →
+      IsFirstRound rounds (ends_well t flow (rounds_of f 0 rounds)) answer
+  first_end lines None is short inside = λ round within.
+      had_ends t flow f g rounds some same (round + 1) round (omega arith) within
+      (ap (λ h. has_rounds t.round_ticks (rounds_of h 0 (round + 1)) (full flow.rate flow.burst)) is ∙ short (round + 1))
+  first_end lines (Some first) is short inside = (
+    inside,
+    lacked_ends t flow f g rounds some same first inside
+        (ap (λ h. has_rounds t.round_ticks (rounds_of h 0 first) (full flow.rate flow.burst)) is ∙ short.1 first (omega arith))
+        (ap (λ h. has_rounds t.round_ticks (rounds_of h 0 (first + 1)) (full flow.rate flow.burst)) is
+        ∙ ap (λ n. has_rounds t.round_ticks (rounds_of (credit_in lines) 0 n) (full flow.rate flow.burst)) (all first)
+        ∙ short.2),
+    λ round early. had_ends t flow f g rounds some same first round early (omega (arith, early, inside))
+        (ap (λ h. has_rounds t.round_ticks (rounds_of h 0 first) (full flow.rate flow.burst)) is
+        ∙ short.1 first (omega arith)),
+  )
+    where
+      all : (n : ℕ) → n + 1 ≡ n + 1 - 0
+      all n = omega arith
+
 -- what is answered of a flow
-pub flow_is : (t : Tables) (v : TraceAsks) (lines : List Row) (grants : List Grant) (place : ℕ) (turn : Turn) →
+pub flow_is : (t : Tables) (v : TraceAsks) (lines : List Row) (grants : List Grant) (latest place : ℕ) (turn : Turn) →
     AreTables t → slice_get (table_order t) place ≡ Some turn → turn.cluster.list ≡ 0 → 0 < v.rounds →
-    IsPermutation (requested_in lines) grants → IsNonDecreasingBy (λ g. g.round) grants →
+    Same (requested_in lines) grants → RisesTo 0 latest grants →
     IsFlowAccountOf (run_in t v) lines turn.cluster.flow
     (get_or (credited_all v.rounds t.round_ticks (table_order t) grants) place no_flow)
-flow_is t v lines grants place turn lawful listed first some moved ordered =
+flow_is t v lines grants latest place turn lawful listed first some moved ordered =
     let flow : FlowTable = turn.cluster.flow in
     let ticks : ℕ = t.round_ticks in
     let last : ℕ = v.rounds - 1 in
@@ -195,9 +266,7 @@ flow_is t v lines grants place turn lawful listed first some moved ordered =
     (recursion_from_All (λ (g : Grant). ((g.id == flow.id) && nat_lt g.round v.rounds) ≡ true) own
     (filter_passes (λ (g : Grant). (g.id == flow.id) && nat_lt g.round v.rounds) grants)) in
     let rising : Rising (λ g. g.round) 0 own =
-    rising_from (λ g. g.round) 0 own
-    (IsNonDecreasingBy-filter (λ (g : Grant). g.round) (λ g. (g.id == flow.id) && nat_lt g.round v.rounds) grants ordered)
-    (λ k d within. omega arith) in
+    rises_filter (λ g. (g.id == flow.id) && nat_lt g.round v.rounds) 0 latest grants ordered in
     let done : IsFlowAccountOf (run_in t v) lines flow (fold (step ticks) start own) = record {
       short = λ limited.
           let answer : Option ℕ = short_round ticks 0 (full flow.rate flow.burst) own in

@@ -1,17 +1,15 @@
 -- The ledger: a round more, a line more, and what it comes to.
-use Rattle.std.proofs.Common.{◌≡◌, ℕ, zero, suc, ◌+◌, ◌-◌, ◌<◌, ◌≤◌, ◌==◌, min, Bool, true, false, List, [], ◌∷◌, ◌++◌, length, get_or, set, map, replicate, take, drop, cond, Option, Some, None, refl, sym, ap, ap₂, ◌∙◌, inl, inr, arith, eq-eqb, ne_eqb, IsPermutation, Bor, subst}
-use Rattle.std.specs.Prelude.{◌&&◌, if◌then◌else◌, nat_lt, nat_le, filter, find, slice_index, sum_by}
+use Rattle.std.proofs.Common.{◌≡◌, ℕ, zero, suc, ◌+◌, ◌-◌, ◌<◌, ◌≤◌, ◌==◌, Bool, true, false, List, [], ◌∷◌, ◌++◌, length, get_or, replicate, take, drop, cond, Option, Some, None, refl, sym, ap, ap₂, ◌∙◌, inl, inr, arith, eq-eqb, ne_eqb, subst}
+use Rattle.std.specs.Prelude.{◌&&◌, if◌then◌else◌, not, nat_lt, nat_le, filter, find, slice_index, sum_by}
 use Rattle.std.specs.List.{AllByRecursion, range_with_len}
-use Rattle.std.specs.List.Sorted.{IsNonDecreasingBy}
-use Rattle.std.proofs.lemmas.Bool.{cases_Bool, cases_eq, cases_lt, and_cases, and_left, and_parts, and_right, false≢true, false_from_ne_true, le-leb, lt-leb, leb-true, leb-false, le-ltb, lt-ltb, ltb-true, ltb-false}
+use Rattle.std.proofs.lemmas.Bool.{cases_eq, cases_lt, and_from, and_left, and_right, eqb-true, false≢true, le-leb, le-ltb, lt-ltb, ltb-true}
 use Rattle.std.proofs.lemmas.Bool.Decides.{nat_tests}
-use Rattle.std.proofs.lemmas.List.{get_or_default, get_or-replicate, length-replicate, map-append, take_more, get_or-set_same, get_or-set_other, length-set, take-append-drop}
+use Rattle.std.proofs.lemmas.List.{get_or-replicate, length-replicate, take-append-drop}
 use Rattle.std.proofs.lemmas.List.Elements.{filter_more}
 use Rattle.std.proofs.lemmas.List.FromFn.{get_or-map-range_with_len, take-map-range_with_len}
 use Rattle.std.proofs.lemmas.List.Sums.{sum_by-cons}
 use Rattle.us_flows.specs.Tables.{Tables}
-use Rattle.us_flows.specs.Clusters.{Cluster, Turn, table_order, words_of}
-use Rattle.us_flows.specs.Lawful.{AreTables}
+use Rattle.us_flows.specs.Clusters.{Cluster, Turn, words_of}
 use Rattle.us_requests.specs.declared.asks.Ask.{Ask}
 use Rattle.us_requests.specs.Cuts.{asked, cut_of}
 use Rattle.us_requests.specs.Traces.{TraceAsks, IsTrace, asks_in, cuts_in}
@@ -19,16 +17,16 @@ use Rattle.us_output.specs.declared.rows.Grant.{Grant}
 use Rattle.us_output.specs.declared.rows.Row.{Row}
 use Rattle.us_output.proofs.PartLemmas.{all_both, all_weaker}
 use Rattle.us_lawful.specs.Runs.{requested_in, run_in}
-use Rattle.us_lawful.specs.Credits.{asked_within, is_of, sum_holds}
-use Rattle.us_lawful.proofs.ItemLemmas.{sum_most}
-use Rattle.us_lawful.proofs.SameLemmas.{same_filter, same_moved, sum_append, sum_filter, sum_map}
+use Rattle.us_lawful.specs.Credits.{asked_within, credited_within, is_of, sum_holds}
+use Rattle.us_lawful.proofs.ItemLemmas.{filter_same, sum_most, sum_zero}
+use Rattle.us_lawful.proofs.SameLemmas.{Same, same_filter, sum_append, sum_filter, sum_map}
 use Rattle.us_lawful.proofs.SumLemmas.{sum_both}
 use Rattle.us_credit_rules.specs.declared.ledgers.Account.{Account}
 use Rattle.us_credit_rules.specs.Shorts.{IsFirstRound, short_then}
 use Rattle.us_credit_rules.specs.Seats.{AreNamed, has_word, names}
-use Rattle.us_credit_rules.specs.Ledgers.{AreAccountsOf, AreAsked, AreCredited, IsAccountOf, IsCredited, TakesLine, account_at, asked_in, brought, credit_in, credit_within, holds, nothing, with_asked, with_credit}
+use Rattle.us_credit_rules.specs.declared.ledgers.Ledger.{Ledger}
+use Rattle.us_credit_rules.specs.Ledgers.{AreAsked, AreCredited, IsCredited, TakesCredit, TakesLine, account_at, asked_in, brought, credit_in, credit_within, holds, nothing, with_asked}
 use Rattle.us_credit_rules.proofs.CreditLemmas.{sum_pointwise}
-use Rattle.us_credit_rules.proofs.SeatLemmas.{are_named}
 
 -- What is asked for.
 
@@ -194,65 +192,70 @@ asked_is t v rounds word known early =
 
 -- What is credited.
 
--- by one line more,
-pushed : (test : Grant → Bool) (grants : List Grant) (g : Grant) →
-    sum_by (λ g. g.credit) (filter test (grants ++ g ∷ []))
-    ≡ sum_by (λ g. g.credit) (filter test grants) + cond (test g) g.credit 0
-pushed test grants g =
-    let f : Grant → ℕ = λ g. cond (test g) g.credit 0 in
+-- by the lines of a cluster in rounds that pass a test
+abbrev credit_by : (ℕ → Bool) → List Grant → Cluster → ℕ
+credit_by test grants c = sum_by (λ g. g.credit) (filter (λ g. is_of c g && test g.round) grants)
+
+abbrev pub AreUpTo : ℕ → List Grant → Type 0
+AreUpTo latest grants = AllByRecursion (λ g. g.round ≤ latest) grants
+
+-- by one line more
+pushed : (test : ℕ → Bool) (grants : List Grant) (g : Grant) (c : Cluster) →
+    credit_by test (grants ++ g ∷ []) c ≡ credit_by test grants c + cond (is_of c g && test g.round) g.credit 0
+pushed test grants g c =
+    let f : Grant → ℕ = λ g. cond (is_of c g && test g.round) g.credit 0 in
     omega (
       arith,
-      sum_filter (λ (g : Grant). g.credit) test (grants ++ g ∷ []),
-      sum_filter (λ (g : Grant). g.credit) test grants,
+      sum_filter (λ (g : Grant). g.credit) (λ g. is_of c g && test g.round) (grants ++ g ∷ []),
+      sum_filter (λ (g : Grant). g.credit) (λ g. is_of c g && test g.round) grants,
       sum_append f grants (g ∷ []),
       sum_by-cons f g [],
     )
 
-in_more : (grants : List Grant) (g : Grant) (round : ℕ) (c : Cluster) →
-    credit_in (grants ++ g ∷ []) round c ≡ credit_in grants round c + cond (is_of c g && (g.round == round)) g.credit 0
-in_more grants g round c = pushed (λ g. is_of c g && (g.round == round)) grants g
+-- tests that agree on rounds of lines
+agreed : (p q : ℕ → Bool) (grants : List Grant) (c : Cluster) (latest : ℕ) → AreUpTo latest grants →
+    ((n : ℕ) → n ≤ latest → p n ≡ q n) → credit_by p grants c ≡ credit_by q grants c
+agreed p q grants c latest all same =
+    ap (sum_by (λ (g : Grant). g.credit))
+    (filter_same (λ (g : Grant). is_of c g && p g.round) (λ g. is_of c g && q g.round) grants
+    (all_weaker (λ (g : Grant). g.round ≤ latest) (λ g. (is_of c g && p g.round) ≡ (is_of c g && q g.round))
+    (λ g early. ap (λ b. is_of c g && b) (same g.round early)) grants all))
 
-within_more : (grants : List Grant) (g : Grant) (rounds : ℕ) (c : Cluster) →
-    credit_within (grants ++ g ∷ []) rounds c
-    ≡ credit_within grants rounds c + cond (is_of c g && nat_lt g.round rounds) g.credit 0
-within_more grants g rounds c = pushed (λ g. is_of c g && nat_lt g.round rounds) grants g
+-- nothing in later rounds,
+none_later : (grants : List Grant) (c : Cluster) (latest round : ℕ) → AreUpTo latest grants → latest < round →
+    credit_in grants round c ≡ 0
+none_later grants c latest round all late =
+    agreed (λ n. n == round) (λ n. false) grants c latest all
+    (λ n early. ne_eqb n round (λ same. omega (arith, same, early, late)))
+    ∙ sum_filter (λ (g : Grant). g.credit) (λ g. is_of c g && false) grants
+    ∙ sum_zero (λ (g : Grant). cond (is_of c g && false) g.credit 0) grants
+    (λ g. ap (λ b. cond {A = ℕ} b g.credit 0) (and_right (is_of c g) false refl))
 
--- in one round more,
-within_next : (grants : List Grant) (round : ℕ) (c : Cluster) →
-    credit_within grants (round + 1) c ≡ credit_within grants round c + credit_in grants round c
-within_next grants round c =
-    let before : Grant → ℕ = λ g. cond (is_of c g && nat_lt g.round round) g.credit 0 in
-    let now : Grant → ℕ = λ g. cond (is_of c g && (g.round == round)) g.credit 0 in
-    let by_then : Grant → ℕ = λ g. cond (is_of c g && nat_lt g.round (round + 1)) g.credit 0 in
-    sum_filter (λ (g : Grant). g.credit) (λ g. is_of c g && nat_lt g.round (round + 1)) grants
-    ∙ sum_pointwise by_then (λ g. before g + now g) (λ g. parts (is_of c g) g.round g.credit) grants
+-- so that all is what is credited before a round and in it
+all_credit : (grants : List Grant) (c : Cluster) (round rounds : ℕ) → AreUpTo round grants → round < rounds →
+    credit_within grants rounds c ≡ credit_within grants round c + credit_in grants round c
+all_credit grants c round rounds all inside =
+    agreed (λ n. nat_lt n rounds) (λ n. nat_lt n (round + 1)) grants c round all
+    (λ n early. lt-ltb n rounds (omega (arith, early, inside)) ∙ sym (lt-ltb n (round + 1) (omega (arith, early))))
+    ∙ sum_filter (λ (g : Grant). g.credit) (λ g. is_of c g && nat_lt g.round (round + 1)) grants
+    ∙ sum_pointwise (λ (g : Grant). cond (is_of c g && nat_lt g.round (round + 1)) g.credit 0) (λ g. before g + now g)
+    (λ g. parts (is_of c g) g.round g.credit) grants
     ∙ sum_both before now grants
     ∙ ap₂ (λ a b. a + b)
     (sym (sum_filter (λ (g : Grant). g.credit) (λ g. is_of c g && nat_lt g.round round) grants))
     (sym (sum_filter (λ (g : Grant). g.credit) (λ g. is_of c g && (g.round == round)) grants))
   where
+    before : Grant → ℕ
+    before g = cond (is_of c g && nat_lt g.round round) g.credit 0
+
+    now : Grant → ℕ
+    now g = cond (is_of c g && (g.round == round)) g.credit 0
+
     parts : (own : Bool) (n bytes : ℕ) →
         cond (own && nat_lt n (round + 1)) bytes 0
         ≡ cond (own && nat_lt n round) bytes 0 + cond (own && (n == round)) bytes 0
     parts false n bytes = omega arith
     parts true n bytes = grind (arith, nat_tests)
-
--- and in rounds without lines
-within_same : (grants : List Grant) (c : Cluster) (begun more : ℕ) →
-    ((round : ℕ) → begun ≤ round → round < begun + more → credit_in grants round c ≡ 0) →
-    credit_within grants (begun + more) c ≡ credit_within grants begun c
-within_same grants c begun zero none =
-    let same : begun + 0 ≡ begun = omega arith in
-    ap (λ n. credit_within grants n c) same
-within_same grants c begun (suc more) none =
-    let next : begun + suc more ≡ begun + more + 1 = omega arith in
-    omega (
-      arith,
-      ap (λ n. credit_within grants n c) next,
-      within_next grants (begun + more) c,
-      none (begun + more) (omega arith) (omega arith),
-      within_same grants c begun more (λ round late early. none round late (omega (arith, early))),
-    )
 
 -- First rounds.
 
@@ -266,287 +269,157 @@ same_first rounds p q (Some at) same first = (
   λ round early. sym (same round (omega (arith, early, first.0))) ∙ first.2 round early,
 )
 
--- One cluster.
+-- where a test may fail now in a round behind which it holds
+first_next : (rounds round : ℕ) (p q : ℕ → Bool) (over : Bool) (answer : Option ℕ) → round < rounds →
+    ((i : ℕ) → i < round → q i ≡ p i) → q round ≡ (p round && not over) →
+    ((i : ℕ) → round < i → i < rounds → (p i ≡ true) × (q i ≡ true)) →
+    IsFirstRound rounds p answer → IsFirstRound rounds q (short_then round over answer)
+first_next rounds round p q over (Some at) inside early here late first = elim (cases_lt at round) [
+  | inl before ↦ (
+    first.0,
+    early at before ∙ first.1,
+    λ i sooner. early i (omega (arith, sooner, before)) ∙ first.2 i sooner,
+  )
+  | inr behind ↦ elim (cases_eq at round) [
+    | inl same ↦ (
+      first.0,
+      ap q same ∙ here ∙ and_left (p round) (not over) (ap p (sym same) ∙ first.1),
+      λ i sooner. early i (omega (arith, sooner, same)) ∙ first.2 i sooner,
+    )
+    | inr apart ↦
+        absurd (false≢true (sym first.1 ∙ (late at (omega (arith, behind, apart)) first.0).0))
+  ]
+]
+first_next rounds round p q true None inside early here late first = (
+  inside,
+  here ∙ and_right (p round) false refl,
+  λ i sooner. early i sooner ∙ first i (omega (arith, sooner, inside)),
+)
+first_next rounds round p q false None inside early here late first = λ i within. elim (cases_lt i round) [
+  | inl before ↦ early i before ∙ first i within
+  | inr behind ↦ elim (cases_eq i round) [
+    | inl same ↦ ap q same ∙ here ∙ and_from (p round) true (first round inside) refl
+    | inr apart ↦ (late i (omega (arith, behind, apart)) within).1
+  ]
+]
 
-module _ (v : TraceAsks) (grants : List Grant) (turn : Turn) where
-  -- rounds begin
-  begun_one : (begun now : ℕ) (a : Account) → begun ≤ now → now ≤ v.rounds → IsCredited v begun grants turn a →
-      IsCredited v now grants turn (brought v now turn.number a)
-  begun_one begun now a later inside is =
-      let count : begun + (now - begun) ≡ now = omega (arith, later) in
-      record {
-        credited = is.credited
-            ∙ ap (λ n. min n 18446744073709551615) (sym (within_same grants turn.cluster begun (now - begun)
-            (λ round late early. is.none_later round late (omega (arith, early, inside, later))))
-            ∙ ap (λ n. credit_within grants n turn.cluster) count);
-        none_later = λ round late early. is.none_later round (omega (arith, late, later)) early;
-        short = is.short;
-      }
+-- One cluster, and one line more, of no earlier round.
 
-  -- a line of no round of the run, or of another cluster
-  module _ (g : Grant) (out : (round : ℕ) → round < v.rounds → (is_of turn.cluster g && (g.round == round)) ≡ false) where
-    in_same : (round : ℕ) → round < v.rounds →
-        credit_in (grants ++ g ∷ []) round turn.cluster ≡ credit_in grants round turn.cluster
-    in_same round inside =
+module _ (v : TraceAsks) (grants : List Grant) (turn : Turn) (g : Grant) (a b : Account)
+    (is : IsCredited v grants turn a) where
+  abbrev more : List Grant
+  more = grants ++ g ∷ []
+
+  -- a line of another cluster, or of no round of the run
+  kept_one : (is_of turn.cluster g && nat_lt g.round v.rounds) ≡ false → b.credited ≡ a.credited → b.short ≡ a.short →
+      IsCredited v more turn b
+  kept_one out credited short = record {
+    left = λ all few. ap (λ n. all - n) credited ∙ is.left all few ∙ ap (λ n. all - n) (sym (within v.rounds (omega arith)));
+    short = subst (IsFirstRound v.rounds (holds v more turn)) (sym short)
+        (same_first v.rounds (holds v grants turn) (holds v more turn) a.short
+        (λ round inside. ap₂ (λ credit before. nat_le credit (asked_in v (round + 1) turn.number - before))
+        (sym (in_same round inside)) (sym (within round (omega (arith, inside))))) is.short);
+  }
+    where
+      out_of : (own early test : Bool) → (own && early) ≡ false → (test ≡ true → early ≡ true) → (own && test) ≡ false
+      out_of false early test none there = refl
+      out_of true early true none there = absurd (false≢true (sym none ∙ there refl))
+      out_of true early false none there = refl
+
+      same : (test : ℕ → Bool) → (test g.round ≡ true → g.round < v.rounds) →
+          credit_by test more turn.cluster ≡ credit_by test grants turn.cluster
+      same test there =
+          omega (
+            arith,
+            pushed test grants g turn.cluster,
+            ap (λ b. cond {A = ℕ} b g.credit 0) (out_of (is_of turn.cluster g) (nat_lt g.round v.rounds) (test g.round) out
+                (λ is. lt-ltb g.round v.rounds (there is))),
+          )
+
+      in_same : (round : ℕ) → round < v.rounds → credit_in more round turn.cluster ≡ credit_in grants round turn.cluster
+      in_same round inside = same (λ n. n == round) (λ is. omega (arith, eqb-true g.round round is, inside))
+
+      within : (rounds : ℕ) → rounds ≤ v.rounds →
+          credit_within more rounds turn.cluster ≡ credit_within grants rounds turn.cluster
+      within rounds most = same (λ n. nat_lt n rounds) (λ is. omega (arith, ltb-true g.round rounds is, most))
+
+  -- and its own
+  own_one : AreUpTo g.round grants → is_of turn.cluster g ≡ true → g.round < v.rounds →
+      asked_in v (g.round + 1) turn.number < 18446744073709551616 →
+      TakesCredit g.round g.credit (brought v (g.round + 1) turn.number a) b → IsCredited v more turn b
+  own_one upto own inside few takes = record {
+    left = λ all fits.
         omega (
           arith,
-          in_more grants g round turn.cluster,
-          ap (λ b. cond {A = ℕ} b g.credit 0) (out round inside),
-        )
+          takes.left all fits,
+          is.left all fits,
+          more_credit (λ n. nat_lt n v.rounds) true (lt-ltb g.round v.rounds inside),
+        );
+    short = subst (IsFirstRound v.rounds (holds v more turn)) (sym takes.short)
+        (first_next v.rounds g.round (holds v grants turn) (holds v more turn) _ a.short inside early here late is.short);
+  }
+    where
+      c : Cluster
+      c = turn.cluster
 
-    none_before : (rounds : ℕ) → rounds ≤ v.rounds → (is_of turn.cluster g && nat_lt g.round rounds) ≡ false
-    none_before rounds inside =
-        false_from_ne_true (is_of turn.cluster g && nat_lt g.round rounds) (λ is.
-        let parts = and_parts (is_of turn.cluster g) (nat_lt g.round rounds) is in
-        let early : g.round < rounds = ltb-true g.round rounds parts.1 in
-        false≢true (sym (out g.round (omega (arith, early, inside)))
-        ∙ ap₂ (λ a b. a && b) parts.0 (eq-eqb g.round g.round refl)))
+      asks : ℕ
+      asks = asked_in v (g.round + 1) turn.number
 
-    within_kept : (rounds : ℕ) → rounds ≤ v.rounds →
-        credit_within (grants ++ g ∷ []) rounds turn.cluster ≡ credit_within grants rounds turn.cluster
-    within_kept rounds inside =
-        omega (
-          arith,
-          within_more grants g rounds turn.cluster,
-          ap (λ b. cond {A = ℕ} b g.credit 0) (none_before rounds inside),
-        )
+      more_credit : (test : ℕ → Bool) (b : Bool) → test g.round ≡ b →
+          credit_by test more c ≡ credit_by test grants c + cond b g.credit 0
+      more_credit test b is =
+          omega (arith, pushed test grants g c, ap₂ (λ o t. cond {A = ℕ} (o && t) g.credit 0) own is)
 
-    kept_one : (begun : ℕ) (a : Account) → begun ≤ v.rounds → IsCredited v begun grants turn a →
-        IsCredited v begun (grants ++ g ∷ []) turn a
-    kept_one begun a inside is = record {
-      credited = is.credited ∙ ap (λ n. min n 18446744073709551615) (sym (within_kept begun inside));
-      none_later = λ round late early. in_same round early ∙ is.none_later round late early;
-      short = same_first v.rounds (holds v grants turn) (holds v (grants ++ g ∷ []) turn) a.short
-          (λ round within. ap₂ (λ credit before. nat_le credit (asked_in v (round + 1) turn.number - before))
-          (sym (in_same round within)) (sym (within_kept round (omega (arith, within))))) is.short;
-    }
+      in_other : (round : ℕ) → (g.round ≡ round → ⊥) → credit_in more round c ≡ credit_in grants round c
+      in_other round other = omega (arith, more_credit (λ n. n == round) false (ne_eqb g.round round other))
 
-  -- its own line, of the last round that is begun
-  module _ (g : Grant) (a : Account) (own : is_of turn.cluster g ≡ true) (inside : g.round < v.rounds)
-      (asked : a.asked ≡ asked_in v (g.round + 1) turn.number) (few : a.asked < 18446744073709551615)
-      (is : IsCredited v (g.round + 1) grants turn a) where
-    abbrev all : List Grant
-    all = grants ++ g ∷ []
+      within_early : (rounds : ℕ) → rounds ≤ g.round → credit_within more rounds c ≡ credit_within grants rounds c
+      within_early rounds sooner = omega (arith, more_credit (λ n. nat_lt n rounds) false (le-ltb g.round rounds sooner))
 
-    abbrev most : ℕ
-    most = min (a.credited + g.credit) 18446744073709551615
+      in_own : credit_in more g.round c ≡ credit_in grants g.round c + g.credit
+      in_own = more_credit (λ n. n == g.round) true (eq-eqb g.round g.round refl)
 
-    abbrev over : Bool
-    over = nat_lt 0 g.credit && nat_lt a.asked most
+      early : (round : ℕ) → round < g.round → holds v more turn round ≡ holds v grants turn round
+      early round sooner =
+          ap₂ (λ credit before. nat_le credit (asked_in v (round + 1) turn.number - before))
+          (in_other round (λ same. omega (arith, same, sooner))) (within_early round (omega (arith, sooner)))
 
-    in_other : (round : ℕ) → (g.round ≡ round → ⊥) → credit_in all round turn.cluster ≡ credit_in grants round turn.cluster
-    in_other round other =
-        omega (
-          arith,
-          in_more grants g round turn.cluster,
-          ap₂ (λ a b. cond {A = ℕ} (a && b) g.credit 0) own (ne_eqb g.round round other),
-        )
+      late : (round : ℕ) → g.round < round → round < v.rounds →
+          (holds v grants turn round ≡ true) × (holds v more turn round ≡ true)
+      late round behind within =
+          let none : credit_in grants round c ≡ 0 = none_later grants c g.round round upto behind in (
+            le-leb (credit_in grants round c) (asked_in v (round + 1) turn.number - credit_within grants round c)
+                (omega (arith, none)),
+            le-leb (credit_in more round c) (asked_in v (round + 1) turn.number - credit_within more round c)
+                (omega (arith, none, in_other round (λ same. omega (arith, same, behind)))),
+          )
 
-    in_own : credit_in all g.round turn.cluster ≡ credit_in grants g.round turn.cluster + g.credit
-    in_own =
-        omega (
-          arith,
-          in_more grants g g.round turn.cluster,
-          ap₂ (λ a b. cond {A = ℕ} (a && b) g.credit 0) own (eq-eqb g.round g.round refl),
-        )
+      fits : (asks within now credit left : ℕ) → left ≡ asks - (within + now) →
+          nat_le (now + credit) (asks - within) ≡ (nat_le now (asks - within) && not (nat_lt left credit))
+      fits asks within now credit left is = grind (arith, nat_tests)
 
-    within_early : (rounds : ℕ) → rounds ≤ g.round →
-        credit_within all rounds turn.cluster ≡ credit_within grants rounds turn.cluster
-    within_early rounds early =
-        omega (
-          arith,
-          within_more grants g rounds turn.cluster,
-          ap₂ (λ a b. cond {A = ℕ} (a && b) g.credit 0) own (le-ltb g.round rounds early),
-        )
-
-    within_own : credit_within all (g.round + 1) turn.cluster ≡ credit_within grants (g.round + 1) turn.cluster + g.credit
-    within_own =
-        omega (
-          arith,
-          within_more grants g (g.round + 1) turn.cluster,
-          ap₂ (λ a b. cond {A = ℕ} (a && b) g.credit 0) own (lt-ltb g.round (g.round + 1) (omega arith)),
-        )
-
-    same_early : (round : ℕ) → round < g.round → holds v all turn round ≡ holds v grants turn round
-    same_early round early =
-        ap₂ (λ credit before. nat_le credit (asked_in v (round + 1) turn.number - before))
-        (in_other round (λ same. omega (arith, same, early))) (within_early round (omega (arith, early)))
-
-    holds_late : (round : ℕ) → g.round < round → round < v.rounds → holds v all turn round ≡ true
-    holds_late round late within =
-        le-leb (credit_in all round turn.cluster)
-        (asked_in v (round + 1) turn.number - credit_within all round turn.cluster)
-        (omega (
-          arith,
-          in_other round (λ same. omega (arith, same, late)),
-          is.none_later round (omega (arith, late)) within,
-        ))
-
-    fails_own : over ≡ true → holds v all turn g.round ≡ false
-    fails_own more =
-        let parts = and_parts (nat_lt 0 g.credit) (nat_lt a.asked most) more in
-        lt-leb (credit_in all g.round turn.cluster)
-        (asked_in v (g.round + 1) turn.number - credit_within all g.round turn.cluster)
-        (omega (
-          arith,
-          ltb-true 0 g.credit parts.0,
-          ltb-true a.asked most parts.1,
-          in_own,
-          within_early g.round (omega arith),
-          within_next grants g.round turn.cluster,
-          is.credited,
-          asked,
-        ))
-
-    holds_own : over ≡ false → holds v grants turn g.round ≡ true → holds v all turn g.round ≡ true
-    holds_own enough held =
-        let before = leb-true (credit_in grants g.round turn.cluster)
-        (asked_in v (g.round + 1) turn.number - credit_within grants g.round turn.cluster) held in
-        le-leb (credit_in all g.round turn.cluster)
-        (asked_in v (g.round + 1) turn.number - credit_within all g.round turn.cluster)
-        (elim (and_cases (nat_lt 0 g.credit) (nat_lt a.asked most) enough) [
-          | inl none ↦
-              omega (arith, ltb-false 0 g.credit none, in_own, within_early g.round (omega arith), before)
-          | inr fits ↦
-              omega (
-                arith,
-                ltb-false a.asked most fits,
-                few,
-                in_own,
-                within_early g.round (omega arith),
-                within_next grants g.round turn.cluster,
-                is.credited,
-                asked,
-              )
-        ])
-
-    short_own : (answer : Option ℕ) → IsFirstRound v.rounds (holds v grants turn) answer →
-        IsFirstRound v.rounds (holds v all turn) (short_then g.round over answer)
-    short_own None first = elim (cases_Bool over) [
-      | inl more ↦ rw more
-          (inside, fails_own more, λ round early. same_early round early ∙ first round (omega (arith, early, inside)))
-      | inr enough ↦ rw enough (λ round within. elim (cases_lt round g.round) [
-        | inl early ↦ same_early round early ∙ first round within
-        | inr late ↦ elim (cases_eq g.round round) [
-          | inl here ↦ ap (holds v all turn) (sym here) ∙ holds_own enough (first g.round inside)
-          | inr behind ↦ holds_late round (omega (arith, late, behind)) within
-        ]
-      ])
-    ]
-    short_own (Some at) first =
-        let begun : at ≤ g.round = elim (cases_lt g.round at) [
-          | inl late ↦
-              absurd (false≢true (sym first.1 ∙ le-leb (credit_in grants at turn.cluster)
-              (asked_in v (at + 1) turn.number - credit_within grants at turn.cluster)
-              (omega (arith, is.none_later at (omega (arith, late)) first.0))))
-          | inr early ↦ early
-        ] in (
-          first.0,
-          elim (cases_eq g.round at) [
-            | inl here ↦
-                let same : holds v all turn g.round ≡ false =
-                lt-leb (credit_in all g.round turn.cluster)
-                (asked_in v (g.round + 1) turn.number - credit_within all g.round turn.cluster)
-                (omega (
-                  arith,
-                  in_own,
-                  within_early g.round (omega arith),
-                  leb-false (credit_in grants g.round turn.cluster)
-                      (asked_in v (g.round + 1) turn.number - credit_within grants g.round turn.cluster)
-                      (ap (holds v grants turn) here ∙ first.1),
-                )) in
-                ap (holds v all turn) (sym here) ∙ same
-            | inr other ↦ same_early at (omega (arith, begun, other)) ∙ first.1
-          ],
-          λ round early. same_early round (omega (arith, early, begun)) ∙ first.2 round early,
-        )
-
-    own_one : IsCredited v (g.round + 1) all turn (with_credit g.round g.credit a)
-    own_one = record {
-      credited = omega (arith, within_own, is.credited);
-      none_later = λ round late early.
-          in_other round (λ same. omega (arith, same, late)) ∙ is.none_later round late early;
-      short = short_own a.short is.short;
-    }
+      here : holds v more turn g.round ≡ (holds v grants turn g.round && not (nat_lt (asks - a.credited) g.credit))
+      here =
+          ap₂ (λ credit before. nat_le credit (asks - before)) in_own (within_early g.round (omega arith))
+          ∙ fits asks (credit_within grants g.round c) (credit_in grants g.round c) g.credit (asks - a.credited)
+          (is.left asks few ∙ ap (λ n. asks - n) (all_credit grants c g.round v.rounds upto inside))
 
 -- All clusters.
 
-module _ (v : TraceAsks) (turns : List Turn) (grants : List Grant) where
-  -- rounds begin
-  pub begun_all : (begun now : ℕ) (accounts after : List Account) → begun ≤ now → now ≤ v.rounds →
-      ((word : ℕ) → word < length accounts → account_at after word ≡ brought v now word (account_at accounts word)) →
-      AllByRecursion (λ turn. turn.number < length accounts) turns →
-      AreCredited v turns begun grants accounts → AreCredited v turns now grants after
-  begun_all begun now accounts after later inside are known credited =
+module _ (v : TraceAsks) (turns : List Turn) (g : Grant) (accounts after : List Account)
+    (named : AreNamed (length accounts) turns) where
+  each_turn : (P Q : Turn → Type 0) → ((turn : Turn) → turn.number < length accounts →
+      is_of turn.cluster g ≡ has_word turn.number (find (names g.id g.i) turns) → P turn → Q turn) →
+      AllByRecursion P turns → AllByRecursion Q turns
+  each_turn P Q each all =
       all_weaker
-      (λ turn. (turn.number < length accounts) × IsCredited v begun grants turn (account_at accounts turn.number))
-      (λ turn. IsCredited v now grants turn (account_at after turn.number))
-      (λ turn of. rw (are turn.number of.0) (begun_one v grants turn begun now (account_at accounts turn.number) later inside of.1))
-      turns
+      (λ turn. (turn.number < length accounts)
+      × ((names g.id g.i turn ≡ has_word turn.number (find (names g.id g.i) turns)) × P turn))
+      Q (λ turn of. each turn of.0 of.1.0 of.1.1) turns
       (all_both (λ turn. turn.number < length accounts)
-      (λ turn. IsCredited v begun grants turn (account_at accounts turn.number)) turns known credited)
-
-  -- a line of no round of the run,
-  late_all : (g : Grant) (begun : ℕ) (accounts : List Account) → v.rounds ≤ g.round → begun ≤ v.rounds →
-      AreCredited v turns begun grants accounts → AreCredited v turns begun (grants ++ g ∷ []) accounts
-  late_all g begun accounts late inside credited =
-      all_weaker (λ turn. IsCredited v begun grants turn (account_at accounts turn.number))
-      (λ turn. IsCredited v begun (grants ++ g ∷ []) turn (account_at accounts turn.number))
-      (λ turn is. kept_one v grants turn g
-      (λ round within. and_right (is_of turn.cluster g) (g.round == round)
-      (ne_eqb g.round round (λ same. omega (arith, same, late, within)))) begun (account_at accounts turn.number) inside is)
-      turns credited
-
-  -- or one that names none,
-  unnamed_all : (g : Grant) (words begun : ℕ) (accounts : List Account) → AreNamed words turns →
-      find (names g.id g.i) turns ≡ None → begun ≤ v.rounds →
-      AreCredited v turns begun grants accounts → AreCredited v turns begun (grants ++ g ∷ []) accounts
-  unnamed_all g words begun accounts named none inside credited =
-      all_weaker
-      (λ turn. (names g.id g.i turn ≡ has_word turn.number (find (names g.id g.i) turns))
-      × IsCredited v begun grants turn (account_at accounts turn.number))
-      (λ turn. IsCredited v begun (grants ++ g ∷ []) turn (account_at accounts turn.number))
-      (λ turn of. kept_one v grants turn g
-      (λ round within. and_left (is_of turn.cluster g) (g.round == round) (of.0 ∙ ap (has_word turn.number) none)) begun
-      (account_at accounts turn.number) inside of.1)
-      turns
-      (all_both (λ turn. names g.id g.i turn ≡ has_word turn.number (find (names g.id g.i) turns))
-      (λ turn. IsCredited v begun grants turn (account_at accounts turn.number)) turns (named.named g.id g.i) credited)
-
-  -- and one of the last round that is begun, which credits the cluster that it names
-  credited_all : (g : Grant) (u : Turn) (accounts : List Account) → AreNamed (length accounts) turns → IsTrace v →
-      find (names g.id g.i) turns ≡ Some u → u.number < length accounts → g.round < v.rounds →
-      AreAsked v (g.round + 1) accounts → AreCredited v turns (g.round + 1) grants accounts →
-      AreCredited v turns (g.round + 1) (grants ++ g ∷ [])
-      (set accounts u.number (with_credit g.round g.credit (account_at accounts u.number)))
-  credited_all g u accounts named trace found known inside asked credited =
-      let more : Account = with_credit g.round g.credit (account_at accounts u.number) in
-      all_weaker
-      (λ turn. (names g.id g.i turn ≡ has_word turn.number (find (names g.id g.i) turns))
-      × IsCredited v (g.round + 1) grants turn (account_at accounts turn.number))
-      (λ turn. IsCredited v (g.round + 1) (grants ++ g ∷ []) turn (account_at (set accounts u.number more) turn.number))
-      (λ turn of. elim (cases_eq u.number turn.number) [
-        | inl same ↦
-            let own : is_of turn.cluster g ≡ true =
-            of.0 ∙ ap (has_word turn.number) found ∙ eq-eqb u.number turn.number same in
-            let here : account_at (set accounts u.number more) turn.number
-            ≡ with_credit g.round g.credit (account_at accounts turn.number) =
-            ap (λ n. get_or (set accounts u.number more) n nothing) (sym same)
-            ∙ get_or-set_same accounts u.number more nothing known
-            ∙ ap (λ n. with_credit g.round g.credit (account_at accounts n)) same in
-            let its = asked.asked turn.number (omega (arith, same, known)) in
-            rw here (own_one v grants turn g (account_at accounts turn.number) own inside its
-            (omega (arith, its, asked_few v (g.round + 1) turn.number trace)) of.1)
-        | inr other ↦
-            rw (get_or-set_other accounts u.number turn.number more nothing (λ same. other (sym same)))
-            (kept_one v grants turn g
-            (λ round within. and_left (is_of turn.cluster g) (g.round == round)
-            (of.0 ∙ ap (has_word turn.number) found ∙ ne_eqb u.number turn.number other)) (g.round + 1)
-            (account_at accounts turn.number) (omega (arith, inside)) of.1)
-      ])
-      turns
-      (all_both (λ turn. names g.id g.i turn ≡ has_word turn.number (find (names g.id g.i) turns))
-      (λ turn. IsCredited v (g.round + 1) grants turn (account_at accounts turn.number)) turns (named.named g.id g.i) credited)
+      (λ turn. (names g.id g.i turn ≡ has_word turn.number (find (names g.id g.i) turns)) × P turn) turns named.inside
+      (all_both (λ turn. names g.id g.i turn ≡ has_word turn.number (find (names g.id g.i) turns)) P turns
+      (named.named g.id g.i) all))
 
 -- The ledger.
 
@@ -559,154 +432,133 @@ start_asked v words = record {
 }
 
 pub start_credited : (v : TraceAsks) (turns : List Turn) (words : ℕ) → AllByRecursion (λ turn. turn.number < words) turns →
-    AreCredited v turns 0 [] (replicate words nothing)
+    AreCredited v turns [] (replicate words nothing)
 start_credited v turns words known =
     all_weaker (λ turn. turn.number < words)
-    (λ turn. IsCredited v 0 [] turn (account_at (replicate words nothing) turn.number))
+    (λ turn. IsCredited v [] turn (account_at (replicate words nothing) turn.number))
     (λ turn inside. rw (get_or-replicate words turn.number nothing nothing inside) (record {
-      credited = refl;
-      none_later = λ round late early. refl;
+      left = λ all few. refl;
       short = λ round within. le-leb 0 (asked_in v (round + 1) turn.number - 0) (omega arith);
     })) turns known
 
--- where rounds begin
-pub begun_asked : (v : TraceAsks) (now : ℕ) (accounts after : List Account) → now ≤ v.rounds →
-    length after ≡ length accounts →
-    ((word : ℕ) → word < length accounts → account_at after word ≡ brought v now word (account_at accounts word)) →
-    AreAsked v now after
-begun_asked v now accounts after inside long are = record {
-  inside = inside;
-  asked = λ word within. ap (λ (a : Account). a.asked) (are word (omega (arith, within, long)));
-}
+-- One line more.
 
--- a line of no round of the run
-pub late_taken : (v : TraceAsks) (turns : List Turn) (g : Grant) (begun : ℕ) (accounts : List Account) →
-    v.rounds ≤ g.round → begun ≤ g.round + 1 → AreAsked v begun accounts → TakesLine v turns g begun accounts begun accounts
-late_taken v turns g begun accounts late ordered asked = record {
-  ordered = ordered;
-  long = refl;
-  asked = asked;
-  credited = λ grants credited. late_all v turns grants g begun accounts late asked.inside credited;
-}
+module _ (v : TraceAsks) (turns : List Turn) (g : Grant) (before : Ledger)
+    (named : AreNamed (length before.accounts.items) turns) (ordered : before.begun ≤ g.round + 1)
+    (asked : AreAsked v before.begun before.accounts.items) where
+  abbrev old : List Account
+  old = before.accounts.items
 
--- a line of one, up to which the rounds have begun
-module _ (v : TraceAsks) (turns : List Turn) (g : Grant) (begun : ℕ) (accounts after : List Account)
-    (named : AreNamed (length accounts) turns) (trace : IsTrace v) (ordered : begun ≤ g.round + 1)
-    (inside : g.round < v.rounds) (long : length after ≡ length accounts)
-    (are : (word : ℕ) → word < length accounts →
-    account_at after word ≡ brought v (g.round + 1) word (account_at accounts word)) where
-  asked_now : AreAsked v (g.round + 1) after
-  asked_now = begun_asked v (g.round + 1) accounts after (omega (arith, inside)) long are
-
-  credited_now : (grants : List Grant) → AreCredited v turns begun grants accounts →
-      AreCredited v turns (g.round + 1) grants after
-  credited_now grants credited =
-      begun_all v turns grants begun (g.round + 1) accounts after ordered (omega (arith, inside)) are named.inside credited
-
-  -- that names no cluster,
-  pub unnamed_taken : find (names g.id g.i) turns ≡ None → TakesLine v turns g begun accounts (g.round + 1) after
-  unnamed_taken none = record {
-    ordered = omega arith;
-    long = long;
-    asked = asked_now;
-    credited = λ grants credited.
-        unnamed_all v turns grants g (length accounts) (g.round + 1) after named none (omega (arith, inside))
-        (credited_now grants credited);
+  -- of no round of the run
+  pub late_taken : v.rounds ≤ g.round → TakesLine v turns g before before
+  late_taken late = record {
+    ordered = ordered;
+    long = refl;
+    asked = asked;
+    credited = λ grants upto credited.
+        each_turn v turns g old old named (λ turn. IsCredited v grants turn (account_at old turn.number))
+        (λ turn. IsCredited v (grants ++ g ∷ []) turn (account_at old turn.number))
+        (λ turn known own is. kept_one v grants turn g (account_at old turn.number) (account_at old turn.number) is
+        (and_right (is_of turn.cluster g) (nat_lt g.round v.rounds) (le-ltb g.round v.rounds late)) refl refl) credited;
   }
 
-  -- or names this one
-  pub named_taken : (u : Turn) → find (names g.id g.i) turns ≡ Some u → u.number < length accounts →
-      TakesLine v turns g begun accounts (g.round + 1)
-      (set after u.number (with_credit g.round g.credit (account_at after u.number)))
-  named_taken u found known =
-      let more : Account = with_credit g.round g.credit (account_at after u.number) in
-      let there : u.number < length after = omega (arith, known, long) in
-      let same : AreNamed (length after) turns = subst (λ n. AreNamed n turns) (sym long) named in
-      record {
-        ordered = omega arith;
-        long = length-set after u.number more ∙ long;
-        asked = record {
-          inside = omega (arith, inside);
-          asked = λ word within. elim (cases_eq u.number word) [
-            | inl here ↦
-                ap (λ n. (account_at (set after u.number more) n).asked) (sym here)
-                ∙ ap (λ (a : Account). a.asked) (get_or-set_same after u.number more nothing there)
-                ∙ asked_now.asked u.number there ∙ ap (asked_in v (g.round + 1)) here
+  -- of one, up to which the rounds have begun
+  module _ (after : Ledger) (inside : g.round < v.rounds) (begun : after.begun ≡ g.round + 1)
+      (long : length after.accounts.items ≡ length old) (now : List Account) (are : (word : ℕ) → word < length old →
+      account_at now word ≡ brought v (g.round + 1) word (account_at old word)) where
+    abbrev all : List Account
+    all = after.accounts.items
+
+    -- that names no cluster,
+    pub unnamed_taken : find (names g.id g.i) turns ≡ None → all ≡ now → TakesLine v turns g before after
+    unnamed_taken none same = record {
+      ordered = omega (arith, begun);
+      long = long;
+      asked = record {
+        inside = omega (arith, begun, inside);
+        asked = λ word within.
+            ap (λ these. (account_at these word).asked) same
+            ∙ ap (λ (a : Account). a.asked) (are word (omega (arith, within, long)))
+            ∙ ap (λ n. asked_in v n word) (sym begun);
+      };
+      credited = λ grants upto credited.
+          each_turn v turns g old all named (λ turn. IsCredited v grants turn (account_at old turn.number))
+          (λ turn. IsCredited v (grants ++ g ∷ []) turn (account_at all turn.number))
+          (λ turn known own is.
+          let kept = ap (λ these. account_at these turn.number) same ∙ are turn.number known in
+          kept_one v grants turn g (account_at old turn.number) (account_at all turn.number) is
+          (and_left (is_of turn.cluster g) (nat_lt g.round v.rounds) (own ∙ ap (has_word turn.number) none))
+          (ap (λ (a : Account). a.credited) kept) (ap (λ (a : Account). a.short) kept)) credited;
+    }
+
+    -- or names this one
+    pub named_taken : (u : Turn) → find (names g.id g.i) turns ≡ Some u → u.number < length old → IsTrace v →
+        TakesCredit g.round g.credit (account_at now u.number) (account_at all u.number) →
+        ((other : ℕ) → (other ≡ u.number → ⊥) → account_at all other ≡ account_at now other) →
+        TakesLine v turns g before after
+    named_taken u found there trace takes others = record {
+      ordered = omega (arith, begun);
+      long = long;
+      asked = record {
+        inside = omega (arith, begun, inside);
+        asked = λ word within.
+            let here = ap (λ (a : Account). a.asked) (are word (omega (arith, within, long)))
+            ∙ ap (λ n. asked_in v n word) (sym begun) in
+            elim (cases_eq word u.number) [
+              | inl same ↦ (own_credit word same).asked ∙ here
+              | inr other ↦ ap (λ (a : Account). a.asked) (others word other) ∙ here
+            ];
+      };
+      credited = λ grants upto credited.
+          each_turn v turns g old all named (λ turn. IsCredited v grants turn (account_at old turn.number))
+          (λ turn. IsCredited v (grants ++ g ∷ []) turn (account_at all turn.number))
+          (λ turn known own is.
+          let it : is_of turn.cluster g ≡ (u.number == turn.number) = own ∙ ap (has_word turn.number) found in
+          elim (cases_eq turn.number u.number) [
+            | inl same ↦
+                own_one v grants turn g (account_at old turn.number) (account_at all turn.number) is upto
+                (it ∙ eq-eqb u.number turn.number (sym same)) inside
+                (omega (arith, asked_few v (g.round + 1) turn.number trace))
+                (subst (λ a. TakesCredit g.round g.credit a (account_at all turn.number)) (are turn.number known)
+                (own_credit turn.number same))
             | inr other ↦
-                ap (λ (a : Account). a.asked)
-                (get_or-set_other after u.number word more nothing (λ here. other (sym here)))
-                ∙ asked_now.asked word (omega (arith, within, length-set after u.number more))
-          ];
-        };
-        credited = λ grants credited.
-            credited_all v turns grants g u after same trace found there inside asked_now (credited_now grants credited);
-      }
-
--- one line more of those that are told
-pub line_credited : (v : TraceAsks) (turns : List Turn) (lines : List (Bor Grant)) (i begun now : ℕ) (d : Bor Grant)
-    (accounts after : List Account) → i < length lines →
-    TakesLine v turns (get_or lines i d).now begun accounts now after →
-    AreCredited v turns begun (map (λ g. g.now) (take i lines)) accounts →
-    AreCredited v turns now (map (λ g. g.now) (take (i + 1) lines)) after
-line_credited v turns lines i begun now d accounts after inside taken credited =
-    subst (λ grants. AreCredited v turns now grants after)
-    (sym (ap (map (λ (g : Bor Grant). g.now)) (take_more lines i d inside)
-    ∙ map-append (λ (g : Bor Grant). g.now) (take i lines) (get_or lines i d ∷ [])))
-    (taken.credited (map (λ g. g.now) (take i lines)) credited)
-
-pub line_ordered : (lines : List (Bor Grant)) (i now : ℕ) (d : Bor Grant) →
-    IsNonDecreasingBy (λ (g : Bor Grant). g.now.round) lines → i < length lines → now ≤ (get_or lines i d).now.round + 1 →
-    (k : ℕ) (e : Bor Grant) → i + 1 ≤ k → k < length lines → now ≤ (get_or lines k e).now.round + 1
-line_ordered lines i now d rises here ordered k e later inside =
-    omega (
-      arith,
-      ordered,
-      ap (λ (g : Bor Grant). g.now.round) (get_or_default lines i d e here),
-      rises i k e (omega (arith, later)) inside,
-    )
+                let kept = others turn.number other ∙ are turn.number known in
+                kept_one v grants turn g (account_at old turn.number) (account_at all turn.number) is
+                (and_left (is_of turn.cluster g) (nat_lt g.round v.rounds)
+                (it ∙ ne_eqb u.number turn.number (λ same. other (sym same))))
+                (ap (λ (a : Account). a.credited) kept) (ap (λ (a : Account). a.short) kept)
+          ]) credited;
+    }
+      where
+        own_credit : (word : ℕ) → word ≡ u.number →
+            TakesCredit g.round g.credit (account_at now word) (account_at all word)
+        own_credit word same =
+            subst (λ n. TakesCredit g.round g.credit (account_at now n) (account_at all n)) (sym same) takes
 
 -- Behind all lines.
 
--- sums don't depend on the order of lines
-moved_sum : (lines : List Row) (grants : List Grant) (test : Grant → Bool) → IsPermutation (requested_in lines) grants →
-    sum_by (λ g. g.credit) (filter test (requested_in lines)) ≡ sum_by (λ g. g.credit) (filter test grants)
-moved_sum lines grants test moved =
-    same_filter test (requested_in lines) grants (same_moved (requested_in lines) grants moved) (λ (g : Grant). g.credit)
+module _ (t : Tables) (v : TraceAsks) (lines : List Row) (grants : List Grant) (turn : Turn) (a : Account)
+    (known : turn.number < length (words_of t)) (moved : Same (requested_in lines) grants)
+    (is : IsCredited v grants turn a) where
+  moved_sum : (test : Grant → Bool) →
+      sum_by (λ g. g.credit) (filter test (requested_in lines)) ≡ sum_by (λ g. g.credit) (filter test grants)
+  moved_sum test = same_filter test (requested_in lines) grants moved (λ (g : Grant). g.credit)
 
-settled : (t : Tables) (v : TraceAsks) (lines : List Row) (grants : List Grant) (turn : Turn) (a : Account) →
-    IsTrace v → turn.number < length (words_of t) → IsPermutation (requested_in lines) grants →
-    a.asked ≡ asked_in v v.rounds turn.number → IsCredited v v.rounds grants turn a →
-    IsAccountOf (run_in t v) lines turn a
-settled t v lines grants turn a trace known moved asked is =
-    let number : ℕ = turn.number in
-    let c : Cluster = turn.cluster in
-    record {
-      left = omega (
-        arith,
-        asked,
-        is.credited,
-        asked_few v v.rounds number trace,
-        asked_is t v v.rounds number known (omega arith),
-        moved_sum lines grants (λ g. is_of c g && nat_lt g.round v.rounds) moved,
-      );
-      short = same_first v.rounds (holds v grants turn) (λ round. sum_holds (run_in t v) lines round turn) a.short
-          (λ round within.
-          ap₂ (λ credit left. nat_le credit left)
-          (sym (moved_sum lines grants (λ g. is_of c g && (g.round == round)) moved))
-          (ap₂ (λ asked before. asked - before) (sym (asked_is t v (round + 1) number known (omega (arith, within))))
-          (sym (moved_sum lines grants (λ g. is_of c g && nat_lt g.round round) moved)))) is.short;
-    }
+  -- what is left of all that is asked
+  pub left_is : IsTrace v →
+      asked_in v v.rounds turn.number - a.credited
+      ≡ asked_within (run_in t v) v.rounds turn.number - credited_within lines v.rounds turn.cluster
+  left_is trace =
+      is.left (asked_in v v.rounds turn.number) (omega (arith, asked_few v v.rounds turn.number trace))
+      ∙ ap₂ (λ all credit. all - credit) (sym (asked_is t v v.rounds turn.number known (omega arith)))
+      (sym (moved_sum (λ g. is_of turn.cluster g && nat_lt g.round v.rounds)))
 
-pub settled_all : (t : Tables) (v : TraceAsks) (lines : List Row) (grants : List Grant) (accounts : List Account) →
-    AreTables t → IsTrace v → length accounts ≡ length (words_of t) → IsPermutation (requested_in lines) grants →
-    AreAsked v v.rounds accounts → AreCredited v (table_order t) v.rounds grants accounts →
-    AreAccountsOf (run_in t v) lines (table_order t) accounts
-settled_all t v lines grants accounts lawful trace long moved asked credited =
-    all_weaker
-    (λ turn. (turn.number < length (words_of t)) × IsCredited v v.rounds grants turn (account_at accounts turn.number))
-    (λ turn. IsAccountOf (run_in t v) lines turn (account_at accounts turn.number))
-    (λ turn of. settled t v lines grants turn (account_at accounts turn.number) trace of.0 moved
-    (asked.asked turn.number (omega (arith, of.0, long))) of.1) (table_order t)
-    (all_both (λ turn. turn.number < length (words_of t))
-    (λ turn. IsCredited v v.rounds grants turn (account_at accounts turn.number)) (table_order t)
-    (are_named t lawful).inside credited)
+  -- and the first round that is credited more
+  pub short_is : IsFirstRound v.rounds (λ round. sum_holds (run_in t v) lines round turn) a.short
+  short_is =
+      same_first v.rounds (holds v grants turn) (λ round. sum_holds (run_in t v) lines round turn) a.short
+      (λ round within.
+      ap₂ (λ credit left. nat_le credit left)
+      (sym (moved_sum (λ g. is_of turn.cluster g && (g.round == round))))
+      (ap₂ (λ asked before. asked - before) (sym (asked_is t v (round + 1) turn.number known (omega (arith, within))))
+      (sym (moved_sum (λ g. is_of turn.cluster g && nat_lt g.round round))))) is.short

@@ -1,6 +1,3 @@
--- items that stand together, and lists in order
-pub mod OwnLemmas
-pub mod OrderLemmas
 -- what lines credit
 pub mod CreditLemmas
 -- clusters in table order
@@ -9,23 +6,19 @@ pub mod SeatLemmas
 pub mod LedgerLemmas
 -- places
 pub mod PlaceLemmas
--- levels of buckets, and buckets through rounds
+-- levels of buckets, buckets through rounds, and what rates allow
 pub mod LevelLemmas
 pub mod WalkLemmas
-pub mod LeftLemmas
--- rates
 pub mod BoundLemmas
-pub mod RateLemmas
 -- accounts of flows
 pub mod FlowLemmas
--- F lines
-pub mod EndLemmas
-pub mod FinalLemmas
--- A lines
-pub mod MarkLemmas
-pub mod TalkerLemmas
-pub mod ActivityLemmas
--- what was not asked for
-pub mod SumLemmas
 -- lines of requests
-pub mod LineLemmas
+pub mod RepeatLemmas
+-- lines behind the last round
+pub mod EndLemmas
+pub mod TellingLemmas
+pub mod TalkerLemmas
+-- what is kept of lines, and the rules by it
+pub mod KeptLemmas
+pub mod RuleLemmas
+pub mod LastLemmas

@@ -10,7 +10,10 @@ use Rattle.std.proofs.lemmas.List.Sums.{sum_by-cons}
 use Rattle.us_flows.specs.Tables.{Tables, FlowTable}
 use Rattle.us_flows.specs.Lawful.{AreTables, IsFlow}
 use Rattle.us_flows.specs.Clusters.{Cluster, Turn, IsTurnIn, clusters_from, makes_requests, requesting, table_order, turns_for, turns_from, words_in, words_of}
+use Rattle.us_flows.proofs.WordLemmas.{few_words}
+use Rattle.us_calendar.proofs.ListingLemmas.{listed_at}
 use Rattle.us_flows.proofs.TurnLaws.{one_number, one_turn, table_order-length, table_order-once, table_order-turns}
+use Rattle.us_lawful.proofs.ItemLemmas.{any_placed, find_some}
 use Rattle.us_lawful.proofs.CreditLineLaws.{counted_there, turn_listed}
 use Rattle.std.proofs.lemmas.Option.{slice_get_read}
 use Rattle.us_output.proofs.PartLemmas.{all_both, all_found, all_weaker}
@@ -45,6 +48,13 @@ flow_more seats place word words flows flow inside is many =
     ap (λ n. (seats ++ own) ++ turns_from (place + 1) (word + n) rest) many
     ∙ append_assoc seats own (turns_from (place + 1) (word + length (words_in flow)) rest)
     ∙ ap (λ left. seats ++ turns_from place word left) here
+
+-- a flow of tables has two clusters and two words at most
+pub few_of : (t : Tables) (flows : List FlowTable) (i : ℕ) (flow : FlowTable) → flows ≡ t.flows → AreTables t →
+    i < length flows → flow ≡ get_or flows i flow → (length flow.clusters ≤ 2) × (length (words_in flow) ≤ 2)
+few_of t flows i flow all lawful inside is =
+    let most = (listed_at (IsFlow t) flows i flow (subst (AllByRecursion (IsFlow t)) (sym all) lawful.flows) inside is).some_clusters.1 in
+    (most, few_words flow most)
 
 -- Numbers of items that pass.
 
@@ -140,15 +150,15 @@ number_found p n (y ∷ xs) k found = elim (cases_Bool (p y)) [
 ]
 
 -- of one that is there
+pub placed_inside : {X : Type 0} (xs : List X) (i : ℕ) (x : X) → slice_get xs i ≡ Some x → i < length xs
+placed_inside [] i x at = absurd (cc at)
+placed_inside (y ∷ xs) zero x at = omega arith
+placed_inside (y ∷ xs) (suc i) x at = omega (arith, placed_inside xs i x at)
+
 pub number_below : (id list k : ℕ) (turns : List Turn) → place_of id list turns ≡ Some k → k < length turns
 number_below id list k turns found =
     let place = number_found (names id list) 0 turns k found in
-    omega (arith, place.2, inside turns place.0 place.1 place.3)
-  where
-    inside : (xs : List Turn) (i : ℕ) (x : Turn) → slice_get xs i ≡ Some x → i < length xs
-    inside [] i x at = absurd (cc at)
-    inside (y ∷ xs) zero x at = omega arith
-    inside (y ∷ xs) (suc i) x at = omega (arith, inside xs i x at)
+    omega (arith, place.2, placed_inside turns place.0 place.1 place.3)
 
 -- the first item that passes is the one with that number
 pub find_number : {X : Type 0} (p : X → Bool) (n : ℕ) (xs : List X) →
@@ -265,17 +275,12 @@ are_seats t lawful = record {
     small turn is =
         omega (arith, (all_found (IsFlow t) t.flows turn.place turn.cluster.flow lawful.flows is.flow).id.1)
 
-    inside : {X : Type 0} (xs : List X) (i : ℕ) (x : X) → slice_get xs i ≡ Some x → i < length xs
-    inside [] i x at = absurd (cc at)
-    inside (y ∷ xs) zero x at = omega arith
-    inside (y ∷ xs) (suc i) x at = omega (arith, inside xs i x at)
-
     short : (turn : Turn) → IsTurnIn t turn → turn.cluster.list < 2
     short turn is =
         omega (
           arith,
           (all_found (IsFlow t) t.flows turn.place turn.cluster.flow lawful.flows is.flow).some_clusters.1,
-          inside turn.cluster.flow.clusters turn.cluster.list turn.cluster.sids is.sids,
+          placed_inside turn.cluster.flow.clusters turn.cluster.list turn.cluster.sids is.sids,
         )
 
     length-from : (flow : FlowTable) (list : ℕ) (lists : List (List ℕ)) →
@@ -367,39 +372,34 @@ named_place t turn place id list lawful listed = of (place_of id list (table_ord
               ∙ sym (ne_eqb k place apart)
         ]
 
--- and so where it has the word of what the line names
+-- one that a line names is found
+pub named_found : (t : Tables) (turn : Turn) (id list : ℕ) → IsTurnIn t turn → names id list turn ≡ true →
+    find (names id list) (table_order t) ≡ None → ⊥
+named_found t turn id list known named none =
+    let listed = turn_listed t turn known in
+    let found = find_some (names id list) (IsTurnIn t) (table_order t) (table_order-turns t)
+    (any_placed (names id list) (table_order t) listed.0 turn listed.1 named) in
+    let never : None ≡ Some found.item = sym none ∙ found.found in
+    cc never
+
+-- and a line names it where it has the word of what the line names
 named_word : (t : Tables) (turn : Turn) (id list : ℕ) → AreTables t → IsTurnIn t turn →
     names id list turn ≡ has_word turn.number (find (names id list) (table_order t))
-named_word t turn id list lawful known = of (place_of id list (table_order t)) refl
+named_word t turn id list lawful known = of (find (names id list) (table_order t)) refl
   where
-    found_at : find (names id list) (table_order t)
-        ≡ option_and_then (λ k. slice_get (table_order t) (k - 0)) (place_of id list (table_order t))
-    found_at = find_number (names id list) 0 (table_order t)
-
-    of : (found : Option ℕ) → place_of id list (table_order t) ≡ found →
-        names id list turn ≡ has_word turn.number (find (names id list) (table_order t))
-    of None is =
-        let listed = turn_listed t turn known in
-        number_missing (names id list) 0 (table_order t) is listed.0 turn listed.1
-        ∙ sym (ap (has_word turn.number) (found_nowhere id list (table_order t) is))
-    of (Some k) is =
-        let there = number_found (names id list) 0 (table_order t) k is in
-        let at : k - 0 ≡ there.0 = omega (arith, there.2) in
-        let other : Turn = there.1 in
-        let of_tables : IsTurnIn t other =
-        all_found (IsTurnIn t) (table_order t) there.0 other (table_order-turns t) there.3 in
-        let found : find (names id list) (table_order t) ≡ Some other =
-        found_at ∙ ap (option_and_then (λ k. slice_get (table_order t) (k - 0))) is
-        ∙ ap (slice_get (table_order t)) at ∙ there.3 in
+    of : (found : Option Turn) → find (names id list) (table_order t) ≡ found →
+        names id list turn ≡ has_word turn.number found
+    of None is = false_from_ne_true (names id list turn) (λ named. named_found t turn id list known named is)
+    of (Some other) is =
+        let there = found_passes (names id list) (IsTurnIn t) (table_order t) other is (table_order-turns t) in
         elim (cases_eq other.number turn.number) [
           | inl same ↦
-              let one : other ≡ turn = one_turn t other turn of_tables known same in
-              ap (names id list) (sym one) ∙ there.4
-              ∙ sym (ap (has_word turn.number) found ∙ eq-eqb other.number turn.number same)
+              ap (names id list) (sym (one_turn t other turn there.0 known same)) ∙ there.1
+              ∙ sym (eq-eqb other.number turn.number same)
           | inr apart ↦
               false_from_ne_true (names id list turn) (λ named.
-              apart (ap (λ (u : Turn). u.number) (one_named t other turn id list lawful of_tables known there.4 named)))
-              ∙ sym (ap (has_word turn.number) found ∙ ne_eqb other.number turn.number apart)
+              apart (ap (λ (u : Turn). u.number) (one_named t other turn id list lawful there.0 known there.1 named)))
+              ∙ sym (ne_eqb other.number turn.number apart)
         ]
 
 -- an item of all turns stands there
@@ -419,6 +419,15 @@ are_named t lawful = record {
 }
 
 -- Flows that make requests.
+
+-- what stands behind other items
+pub slice_behind : {X : Type 0} (xs ys : List X) (k : ℕ) → slice_get (xs ++ ys) (length xs + k) ≡ slice_get ys k
+slice_behind [] ys k =
+    let same : 0 + k ≡ k = omega arith in
+    ap (slice_get ys) same
+slice_behind (x ∷ xs) ys k =
+    let same : suc (length xs) + k ≡ suc (length xs + k) = omega arith in
+    ap (slice_get (x ∷ xs ++ ys)) same ∙ slice_behind xs ys k
 
 -- each has a first cluster, which stands in table order
 first_listed : (place number i : ℕ) (flows : List FlowTable) (flow : FlowTable) → slice_get flows i ≡ Some flow →
@@ -452,18 +461,10 @@ first_listed place number (suc i) (f ∷ flows) flow at asks some =
     let more = first_listed (place + 1) (number + length (words_in f)) i flows flow at asks some in (
       length own + more.0,
       more.1,
-      behind own (turns_from (place + 1) (number + length (words_in f)) flows) more.0 ∙ more.2,
+      slice_behind own (turns_from (place + 1) (number + length (words_in f)) flows) more.0 ∙ more.2,
       more.3,
       more.4,
     )
-  where
-    behind : (xs ys : List Turn) (k : ℕ) → slice_get (xs ++ ys) (length xs + k) ≡ slice_get ys k
-    behind [] ys k =
-        let same : 0 + k ≡ k = omega arith in
-        ap (slice_get ys) same
-    behind (x ∷ xs) ys k =
-        let same : suc (length xs) + k ≡ suc (length xs + k) = omega arith in
-        ap (slice_get (x ∷ xs ++ ys)) same ∙ behind xs ys k
 
 -- and is found by the flow's id
 pub record IsFirstCluster (t : Tables) (flow : FlowTable) : Type 0 where

@@ -1,21 +1,25 @@
 -- Flows that tell their activity, as they are listed, and the A lines that a run should end with.
-use Rattle.std.proofs.Common.{◌≡◌, ℕ, ◌+◌, ◌<◌, Bool, true, false, List, [], ◌∷◌, ◌++◌, length, map, get_or, drop, refl, sym, ap, ap₂, ◌∙◌, inl, inr, append_assoc, arith}
-use Rattle.std.specs.Prelude.{if◌then◌else◌, nat_le, filter, flat_map, slice_index}
-use Rattle.std.specs.List.{AllByRecursion, range_with_len}
+use Rattle.std.proofs.Common.{◌≡◌, ℕ, ◌+◌, ◌<◌, ◌==◌, Bool, true, false, List, [], ◌∷◌, ◌++◌, length, map, get_or, drop, Some, refl, sym, ap, ap₂, subst, ◌∙◌, inl, inr, append_assoc, arith}
+use Rattle.std.specs.Prelude.{◌||◌, if◌then◌else◌, filter, flat_map, fold, slice_get}
+use Rattle.std.specs.List.{AllByRecursion, list_any}
 use Rattle.std.proofs.lemmas.Bool.{cases_Bool}
-use Rattle.std.proofs.lemmas.List.{drop_more, length-append}
-use Rattle.std.proofs.lemmas.List.FromFn.{get_or-map-range_with_len}
+use Rattle.std.proofs.lemmas.List.{drop_more, length-append, take_all}
+use Rattle.std.proofs.lemmas.List.FromFn.{length-map-range_with_len}
 use Rattle.us_flows.specs.Tables.{Tables, FlowTable}
-use Rattle.us_flows.specs.Clusters.{tells_activity, words_in, words_of}
+use Rattle.us_flows.specs.Clusters.{Silent, Word, tells_activity, words_in, words_of}
 use Rattle.us_flows.proofs.WordLemmas.{words-activity}
-use Rattle.us_requests.specs.Traces.{TraceAsks}
+use Rattle.us_requests.specs.Cuts.{cut_of}
+use Rattle.us_requests.specs.Traces.{TraceAsks, asks_in, cuts_in}
+use Rattle.us_calendar.specs.declared.silences.Silence.{Silence}
+use Rattle.us_calendar.specs.Activity.{active_in, activity, hears}
 use Rattle.us_calendar.specs.Entries.{WordedFlow, with_words}
-use Rattle.us_output.proofs.PartLemmas.{all_mapped, all_weaker}
+use Rattle.us_activity.specs.Activities.{AreMarksOf}
+use Rattle.us_activity.specs.Marks.{Marks}
 use Rattle.us_lawful.specs.Runs.{run_in}
 use Rattle.us_lawful.specs.Finals.{activity_of, talking}
 use Rattle.us_credit_rules.specs.declared.talkers.Talker.{Talker}
-use Rattle.us_credit_rules.specs.Activities.{line_of, talker_of, up_to_mark, wanted}
-use Rattle.us_credit_rules.proofs.MarkLemmas.{active_is}
+use Rattle.us_credit_rules.specs.Activities.{line_of, talker_of, wanted}
+use Rattle.us_credit_rules.proofs.SeatLemmas.{slice_behind}
 
 -- those among flows of which the first one's words begin with this number
 abbrev talking_from : ℕ → List FlowTable → List WordedFlow
@@ -55,66 +59,63 @@ pub one_talker : (word : ℕ) (flow : FlowTable) → tells_activity flow.kind �
     own_talker word flow ≡ record { id = flow.id; word = word } ∷ []
 one_talker word flow tells = ap (λ b. if b then record { id = flow.id; word = word } ∷ [] else []) tells
 
--- both words of one are there
-words_there : (word : ℕ) (flows : List FlowTable) →
-    AllByRecursion (λ f. f.word + 1 < word + length (flat_map words_in flows)) (talking_from word flows)
-words_there word [] = tt
-words_there word (flow ∷ flows) =
-    let own : ℕ = length (words_in flow) in
-    let all : length (flat_map words_in (flow ∷ flows)) ≡ own + length (flat_map words_in flows) =
-    length-append (words_in flow) (flat_map words_in flows) in
-    let rest = all_weaker (λ (f : WordedFlow). f.word + 1 < word + own + length (flat_map words_in flows))
-    (λ f. f.word + 1 < word + length (flat_map words_in (flow ∷ flows))) (λ f inside. omega (arith, inside, all))
-    (talking_from (word + own) flows) (words_there (word + own) flows) in
-    there (tells_activity flow.kind) refl (talking_from (word + own) flows) rest
+-- the silent word of one stands there
+silent_at : (before : List Word) (flows : List FlowTable) →
+    AllByRecursion (λ f. slice_get (before ++ flat_map words_in flows) f.word ≡ Some (Silent f.flow))
+    (talking_from (length before) flows)
+silent_at before [] = tt
+silent_at before (flow ∷ flows) =
+    let rest : List WordedFlow = talking_from (length before + length (words_in flow)) flows in
+    there (tells_activity flow.kind) refl rest
+    (subst (λ words. AllByRecursion (λ f. slice_get words f.word ≡ Some (Silent f.flow)) rest)
+    (append_assoc before (words_in flow) (flat_map words_in flows))
+    (subst (λ n. AllByRecursion (λ f. slice_get ((before ++ words_in flow) ++ flat_map words_in flows) f.word
+    ≡ Some (Silent f.flow)) (talking_from n flows)) (length-append before (words_in flow))
+    (silent_at (before ++ words_in flow) flows)))
   where
-    Inside : WordedFlow → Type 0
-    Inside f = f.word + 1 < word + length (flat_map words_in (flow ∷ flows))
+    Stands : WordedFlow → Type 0
+    Stands f = slice_get (before ++ flat_map words_in (flow ∷ flows)) f.word ≡ Some (Silent f.flow)
 
-    there : (tells : Bool) → tells_activity flow.kind ≡ tells → (fs : List WordedFlow) → AllByRecursion Inside fs →
-        AllByRecursion Inside (if tells then record { word = word; flow = flow } ∷ fs else fs)
-    there true tells fs rest = (
-      omega (
-        arith,
-        length-append (words_in flow) (flat_map words_in flows),
-        ap length (words-activity flow tells),
-      ),
-      rest,
-    )
+    there : (tells : Bool) → tells_activity flow.kind ≡ tells → (fs : List WordedFlow) → AllByRecursion Stands fs →
+        AllByRecursion Stands (if tells then record { word = length before; flow = flow } ∷ fs else fs)
+    there true tells fs rest =
+        let here : length before ≡ length before + 0 = omega arith in (
+          ap (slice_get (before ++ flat_map words_in (flow ∷ flows))) here
+              ∙ slice_behind before (flat_map words_in (flow ∷ flows)) 0
+              ∙ ap (λ own. slice_get (own ++ flat_map words_in flows) 0) (words-activity flow tells),
+          rest,
+        )
     there false none fs rest = rest
 
-talking_there : (t : Tables) → AllByRecursion (λ f. f.word + 1 < length (words_of t)) (talking t)
-talking_there t =
-    all_weaker (λ (f : WordedFlow). f.word + 1 < 0 + length (words_of t)) (λ f. f.word + 1 < length (words_of t))
-    (λ f inside. omega (arith, inside)) (talking t) (words_there 0 t.flows)
+-- behind all rounds it is active as the cuts say
+heard : (silence : Silence) (was : Bool) (cuts : List (List ℕ)) →
+    activity (Some silence) was cuts ≡ fold (hears silence.word) was cuts
+heard silence was [] = refl
+heard silence was (cut ∷ cuts) = heard silence (hears silence.word was cut) cuts
 
-pub talkers_there : (t : Tables) (talkers : List Talker) (rounds : List ℕ) → talkers ≡ map talker_of (talking t) →
-    length rounds ≡ length (words_of t) → AllByRecursion (λ talker. talker.word + 1 < length rounds) talkers
-talkers_there t talkers rounds is long =
-    rw (is, long)
-    (all_mapped (λ (talker : Talker). talker.word + 1 < length (words_of t)) talker_of (talking t) (talking_there t))
+active_is : (t : Tables) (v : TraceAsks) (silence : Silence) →
+    active_in (Some silence) (cuts_in t v) v.rounds ≡ fold (hears silence.word) true (cuts_in t v)
+unfolding cuts_in
+active_is t v silence =
+    ap (activity (Some silence) true) (take_all (v.rounds + 1) (cuts_in t v)
+    (omega (arith, length-map-range_with_len (λ round. cut_of (length (words_of t)) (asks_in v round)) 0 v.rounds)))
+    ∙ heard silence true (cuts_in t v)
 
--- the A lines that they lead to
-pub wanted_is : (t : Tables) (v : TraceAsks) (rounds : List ℕ) (talkers : List Talker) →
-    rounds ≡ map (λ word. up_to_mark v word v.rounds) (range_with_len 0 (length (words_of t))) →
-    talkers ≡ map talker_of (talking t) → map (line_of rounds) talkers ≡ wanted (run_in t v)
-wanted_is t v rounds talkers are is =
-    ap (map (line_of rounds)) is ∙ lines (talking t) (talking_there t)
+-- so these are the A lines that a run should end with
+pub wanted_is : (t : Tables) (v : TraceAsks) (marks : Marks) (talkers : List Talker) → AreMarksOf t v marks →
+    talkers ≡ map talker_of (talking t) → map (line_of marks v.rounds) talkers ≡ wanted (run_in t v)
+wanted_is t v marks talkers are is = ap (map (line_of marks v.rounds)) is ∙ lines (talking t) (silent_at [] t.flows)
   where
-    up : ℕ → ℕ
-    up word = up_to_mark v word v.rounds
+    lines : (fs : List WordedFlow) → AllByRecursion (λ f. slice_get (words_of t) f.word ≡ Some (Silent f.flow)) fs →
+        map (line_of marks v.rounds) (map talker_of fs) ≡ map (activity_of (run_in t v)) fs
+    lines [] at = refl
+    lines (f ∷ fs) at =
+        let silence : Silence = record { word = f.word; slots = 0 } in
+        ap₂ (λ b rest. record { flow = f.flow.id; active = if b then 1 else 0 } ∷ rest)
+        (are.told f.flow silence v.rounds at.0 ∙ active_is t v silence) (lines fs at.1)
 
-    at : (word : ℕ) → word < length (words_of t) → slice_index rounds word ≡ up word
-    at word inside =
-        ap (λ these. slice_index these word) are
-        ∙ get_or-map-range_with_len up 0 (length (words_of t)) word word 0 inside (omega arith)
-
-    one : (f : WordedFlow) → f.word + 1 < length (words_of t) → line_of rounds (talker_of f) ≡ activity_of (run_in t v) f
-    one f inside =
-        ap (λ b. record { flow = f.flow.id; active = if b then 1 else 0 })
-        (ap₂ nat_le (at f.word (omega (arith, inside))) (at (f.word + 1) inside) ∙ sym (active_is t v f.word inside))
-
-    lines : (fs : List WordedFlow) → AllByRecursion (λ f. f.word + 1 < length (words_of t)) fs →
-        map (line_of rounds) (map talker_of fs) ≡ map (activity_of (run_in t v)) fs
-    lines [] inside = refl
-    lines (f ∷ fs) inside = ap₂ (λ line rest. line ∷ rest) (one f inside.0) (lines fs inside.1)
+-- one of them has an id where one of the flows has
+pub any_talker : (id : ℕ) (fs : List WordedFlow) →
+    list_any (λ (talker : Talker). talker.id == id) (map talker_of fs) ≡ list_any (λ f. f.flow.id == id) fs
+any_talker id [] = refl
+any_talker id (f ∷ fs) = ap (λ b. (f.flow.id == id) || b) (any_talker id fs)

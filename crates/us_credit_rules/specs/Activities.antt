@@ -1,9 +1,11 @@
 -- A lines, as they are judged: each is of a flow that tells its activity, and each such flow has one, which tells what its last
 -- mark says.
-use Rattle.std.specs.Prelude.{ℕ, zero, suc, ◌+◌, ◌==◌, nat_le, nat_lt, ◌&&◌, Bool, if◌then◌else◌, List, map, count_by, slice_index}
+use Rattle.std.specs.Prelude.{◌≡◌, ℕ, ◌==◌, if◌then◌else◌, List, length, map, slice_index_or, Option, Some, None}
 use Rattle.std.specs.List.{list_any}
-use Rattle.us_requests.specs.Cuts.{asked}
-use Rattle.us_requests.specs.Traces.{TraceAsks, asks_in}
+use Rattle.std.specs.Option.{is_some}
+use Rattle.us_flows.specs.Tables.{Tables}
+use Rattle.us_requests.specs.Traces.{TraceAsks}
+use Rattle.us_activity.specs.Marks.{Marks, is_active}
 use Rattle.us_calendar.specs.Entries.{WordedFlow}
 use Rattle.us_output.specs.declared.rows.FinalActivity.{FinalActivity}
 use Rattle.us_lawful.specs.declared.place.Place.{Place}
@@ -11,18 +13,10 @@ use Rattle.us_lawful.specs.Runs.{Run}
 use Rattle.us_lawful.specs.Finals.{activity_of, is_same_activity, talking}
 use Rattle.us_breaches.specs.Breaches.{At}
 use Rattle.us_credit_rules.specs.declared.talkers.Talker.{Talker}
+use Rattle.us_credit_rules.specs.declared.talkers.Talkers.{Talkers}
+use Rattle.us_credit_rules.specs.declared.told.Told.{Told}
 use Rattle.us_credit_rules.specs.Ends.{end_place}
-
--- Marks.
-
--- a round of a trace marks a word
-abbrev pub marks : TraceAsks → ℕ → ℕ → Bool
-marks v word round = nat_lt 0 (asked (asks_in v round) word)
-
--- how many of the first rounds there are up to the last that marks a word: 0 where none does
-abbrev pub up_to_mark : TraceAsks → ℕ → ℕ → ℕ
-up_to_mark v word zero = 0
-up_to_mark v word (suc round) = if marks v word round then round + 1 else up_to_mark v word round
+use Rattle.us_credit_rules.specs.Tellings.{AreTold, is_once, nothing}
 
 -- Flows that tell their activity.
 
@@ -30,13 +24,10 @@ up_to_mark v word (suc round) = if marks v word round then round + 1 else up_to_
 abbrev pub talker_of : WordedFlow → Talker
 talker_of f = record { id = f.flow.id; word = f.word }
 
--- its A line, where so many rounds go up to the last mark of each word: it is silent if it was marked so behind its last mark as
--- active, whose word is the next
-abbrev pub line_of : List ℕ → Talker → FinalActivity
-line_of rounds talker = record {
-  flow = talker.id;
-  active = if nat_le (slice_index rounds talker.word) (slice_index rounds (talker.word + 1)) then 1 else 0;
-}
+-- its A line behind so many rounds
+abbrev pub line_of : Marks → ℕ → Talker → FinalActivity
+line_of marks rounds talker =
+    record { flow = talker.id; active = if is_active marks talker.word rounds then 1 else 0 }
 
 -- Lines.
 
@@ -44,14 +35,17 @@ line_of rounds talker = record {
 abbrev pub wanted : Run → List FinalActivity
 wanted run = map (activity_of run) (talking run.tables)
 
--- an A line fails of a flow that should have none
-abbrev pub IsStrange : ℕ → List FinalActivity → FinalActivity → Place → Type 0
-IsStrange rounds all a = At (end_place rounds a.flow) (list_any (λ w. w.flow == a.flow) all)
+-- the number that stands for a flow, its id, if the flow tells its activity
+abbrev pub talker_at : Tables → ℕ → Option ℕ
+talker_at t id = if list_any (λ f. f.flow.id == id) (talking t) then Some id else None
 
--- one is told, and no other of its flow
-abbrev pub is_told_once : List FinalActivity → FinalActivity → Bool
-is_told_once told a = (count_by (λ other. other.flow == a.flow) told == 1) && list_any (is_same_activity a) told
+-- what is kept of A lines
+pub record AreTalkers (t : Tables) (v : TraceAsks) (lines : List FinalActivity) (kept : Talkers) : Type 0 where
+  pub ids : (id : ℕ) → is_some (slice_index_or kept.ids.items id None) ≡ list_any (λ f. f.flow.id == id) (talking t)
+  pub told :
+      AreTold t.channels v.rounds (length kept.ids.items) (λ a. a.flow) (λ a. talker_at t a.flow) lines kept.told
 
--- and one fails that should be there and isn't told so
-abbrev pub IsUntold : ℕ → List FinalActivity → FinalActivity → Place → Type 0
-IsUntold rounds told a = At (end_place rounds a.flow) (is_told_once told a)
+-- an A line that should be there fails where it isn't all that is told of its flow
+abbrev pub IsUntold : ℕ → List (Told FinalActivity) → FinalActivity → Place → Type 0
+IsUntold rounds told a =
+    At (end_place rounds a.flow) (is_once (is_same_activity a) (slice_index_or told a.flow nothing))

@@ -1,17 +1,13 @@
 -- The buckets of flows, told one line of a request after another.
-use Rattle.std.specs.Prelude.{◌≡◌, ℕ, ◌-◌, ◌*◌, ◌<◌, ◌==◌, nat_le, nat_lt, not, Bool, true, if◌then◌else◌, Option, Some, None, List, [], map, fold, slice_get, slice_index_or, slice_set}
+use Rattle.std.specs.Prelude.{ℕ, ◌-◌, ◌*◌, ◌==◌, nat_le, nat_lt, not, Bool, true, if◌then◌else◌, Option, Some, None, List, map, fold, slice_index_or, slice_set}
 use Rattle.us_flows.specs.Tables.{FlowTable}
 use Rattle.us_flows.specs.Clusters.{Turn}
 use Rattle.us_bucket.specs.Levels.{Level, full, refilled, spent, bytes_in, units_in}
 use Rattle.us_output.specs.declared.rows.Grant.{Grant}
-use Rattle.us_output.specs.declared.rows.Row.{Row}
 use Rattle.us_lawful.specs.declared.place.Place.{Place}
-use Rattle.us_lawful.specs.Runs.{Run}
-use Rattle.us_lawful.specs.Rates.{flow_rate_holds}
-use Rattle.us_lawful.specs.Finals.{units_left}
 use Rattle.us_credit_rules.specs.declared.buckets.FlowAccount.{FlowAccount}
 use Rattle.us_credit_rules.specs.Seats.{place_of}
-use Rattle.us_credit_rules.specs.Shorts.{IsFirstRound, flow_place, short_then}
+use Rattle.us_credit_rules.specs.Shorts.{flow_place, short_then}
 
 -- the bucket has so many bytes
 abbrev pub is_within : ℕ → Option ℕ → Bool
@@ -75,18 +71,6 @@ credited_by rounds ticks turns flows g =
 abbrev pub credited_all : ℕ → ℕ → List Turn → List Grant → List FlowAccount
 credited_all rounds ticks turns grants =
     fold (credited_by rounds ticks turns) (map (λ turn. full_account turn.cluster.flow.rate turn.cluster.flow.burst) turns) grants
-
--- What they say: the first round that ends a span of too many bytes, where there is a limit, and what is left in the bucket.
-pub record IsFlowAccountOf (run : Run) (lines : List Row) (flow : FlowTable) (a : FlowAccount) : Type 0 where
-  pub short : 0 < flow.rate →
-      IsFirstRound run.rounds (λ round. flow_rate_holds run (record { maps = []; lines = lines }) round flow) a.short
-  pub left : units_of run.tables.round_ticks (run.rounds - 1) a ≡ units_left run lines flow
-
--- of each flow with such a cluster
-abbrev pub AreFlowAccountsOf : Run → List Row → List Turn → List FlowAccount → Type 0
-AreFlowAccountsOf run lines turns flows =
-    (place : ℕ) (turn : Turn) → slice_get turns place ≡ Some turn → turn.cluster.list ≡ 0 →
-    IsFlowAccountOf run lines turn.cluster.flow (slice_index_or flows place no_flow)
 
 -- where the bucket of a flow first lacks the bytes of a credit
 abbrev pub rate_place : List Turn → List FlowAccount → FlowTable → Option Place

@@ -1,66 +1,43 @@
--- Which line of a request isn't right.
-use Rattle.std.specs.Prelude.{◌≡◌, ℕ, ◌+◌, ◌*◌, ◌<◌, ◌≤◌, ◌==◌, nat_eq, nat_lt, ◌&&◌, Bool, false, if◌then◌else◌, List, length, find, count_by, slice_index_or, slice_set, Option, Some, None}
-use Rattle.std.specs.List.{list_any}
-use Rattle.std.specs.Option.{option_eq}
-use Rattle.us_flows.specs.declared.channels.Channel.{Channel}
-use Rattle.us_flows.specs.Tables.{channel_with}
-use Rattle.us_flows.specs.Clusters.{Turn, has_sid}
-use Rattle.us_output.specs.declared.rows.Grant.{Grant}
-use Rattle.us_lawful.specs.declared.place.Place.{Place}
-use Rattle.us_lawful.specs.Credits.{has_cost, is_like}
-use Rattle.us_breaches.specs.Breaches.{Any, At, IsFirstFailure}
-use Rattle.us_credit_rules.specs.Seats.{is_number, names, place_of}
+-- What is kept of the lines of a report.
+use Rattle.std.specs.Prelude.{◌≡◌, ℕ, ◌||◌, nat_le, not, Bool, true, if◌then◌else◌, List, length}
+use Rattle.std.specs.List.Sorted.{IsPermutation}
+use Rattle.us_flows.specs.Tables.{Tables}
+use Rattle.us_flows.specs.Clusters.{table_order}
+use Rattle.us_requests.specs.Traces.{TraceAsks}
+use Rattle.us_output.specs.declared.rows.Row.{Row}
+use Rattle.us_output.specs.declared.rows.Row.TheVariants as rows
+use Rattle.us_lawful.specs.Runs.{activities_in, counts_in, finals_in, is_requested, requested_in}
+use Rattle.us_credit_rules.specs.declared.credit_lines.CreditLines.{CreditLines}
+use Rattle.us_credit_rules.specs.Activities.{AreTalkers}
+use Rattle.us_credit_rules.specs.Requests.{AreRequests}
+use Rattle.us_credit_rules.specs.Seats.{place_of}
+use Rattle.us_credit_rules.specs.Tellings.{AreTold, told_by}
 
--- the place of a cluster and a channel as one number; none where no cluster is named, or where the channel is none of 8 bits
-abbrev pub key_for : Option ℕ → ℕ → Option ℕ
-key_for None channel = None
-key_for (Some place) channel = if nat_lt channel 256 then Some (place * 256 + channel) else None
+-- Behind requests up to a round, a line may be told next that is of no request, or of no earlier round.
+abbrev pub is_due : ℕ → Row → Bool
+is_due latest (rows.Granted g) = not (is_requested g.entry) || nat_le latest g.round
+is_due latest _ = true
 
--- those of a line: lines with the same cluster and channel have the same
-abbrev pub key_of : List Turn → Grant → Option ℕ
-key_of turns g = key_for (place_of g.id g.i turns) g.channel
+-- and then this is the latest round of a request
+abbrev pub latest_behind : ℕ → Row → ℕ
+latest_behind latest (rows.Granted g) = if is_requested g.entry then g.round else latest
+latest_behind latest _ = latest
 
--- a line is right for the cluster that it names, whatever other lines there are
-abbrev pub is_right_for : List Channel → Grant → Option Turn → Bool
-is_right_for channels g None = false
-is_right_for channels g (Some turn) =
-    (g.k == 0) && (has_sid g.channel g.sid turn.cluster && (nat_lt 0 g.credit
-    && has_cost turn.cluster g (channel_with channels g.channel)))
+-- the round of a request, and 0 of another line
+abbrev pub round_of : Row → ℕ
+round_of (rows.Granted g) = if is_requested g.entry then g.round else 0
+round_of _ = 0
 
-abbrev pub is_right_line : List Channel → List Turn → Grant → Bool
-is_right_line channels turns g = is_right_for channels g (find (names g.id g.i) turns)
+-- what is kept of lines that were told in this order
+pub record AreKept (t : Tables) (v : TraceAsks) (lines : List Row) (kept : CreditLines) : Type 0 where
+  pub seats : kept.seats ≡ table_order t
+  pub requests : AreRequests t v (requested_in lines) kept.requests
+  pub finals :
+      AreTold t.channels v.rounds (length (table_order t)) (λ f. f.flow)
+      (λ f. place_of f.flow f.cluster (table_order t)) (finals_in lines) kept.finals
+  pub talkers : AreTalkers t v (activities_in lines) kept.talkers
+  pub counts : kept.counts ≡ told_by (counts_in lines)
 
--- a line that isn't right, or isn't the only one like it, fails at its place
-abbrev pub line_place : Grant → Place
-line_place g = record { round = g.round; channel = g.channel; third = g.id }
-
-abbrev pub IsWrong : List Channel → List Turn → List Grant → Grant → Place → Type 0
-IsWrong channels turns lines g =
-    At (line_place g) (is_right_line channels turns g && (count_by (is_like g) lines == 1))
-
-abbrev pub AreWrong : List Channel → List Turn → List Grant → Place → Type 0
-AreWrong channels turns lines = Any (IsWrong channels turns lines) lines
-
--- Lines told one after another.
-
--- of each key, the last round in which a line was told
-abbrev pub noted : List (Option ℕ) → Option ℕ → ℕ → List (Option ℕ)
-noted last None round = last
-noted last (Some key) round = slice_set last key (Some round)
-
--- whether that is this round
-abbrev pub is_told : List (Option ℕ) → Option ℕ → ℕ → Bool
-is_told last None round = false
-is_told last (Some key) round = option_eq nat_eq (slice_index_or last key None) (Some round)
-
--- so of some lines, of which none is of a later round
-pub record AreNoted (turns : List Turn) (lines : List Grant) (round : ℕ) (last : List (Option ℕ)) : Type 0 where
-  pub none_later : (key r : ℕ) → round < r → is_told last (Some key) r ≡ false
-  pub told : (key r : ℕ) → key < length last → round ≤ r →
-      is_told last (Some key) r ≡ list_any (λ g. is_number key (key_of turns g) && (g.round == r)) lines
-
--- what is kept of some lines: the first place at which one fails, and these rounds
-pub record AreJudged (channels : List Channel) (turns : List Turn) (lines : List Grant) (round : ℕ) (first : Option Place)
-    (last : List (Option ℕ)) : Type 0 where
-  pub wrong : IsFirstFailure channels (AreWrong channels turns lines) first
-  pub rounds : AreNoted turns lines round last
+-- of lines in whatever order they stand
+abbrev pub AreCreditLines : Tables → TraceAsks → List Row → CreditLines → Type 0
+AreCreditLines t v lines kept = (told : List Row) × IsPermutation lines told × AreKept t v told kept

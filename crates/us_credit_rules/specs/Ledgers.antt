@@ -1,15 +1,15 @@
 -- The ledger of clusters: what words ask for and clusters are credited, told one line of a request after another.
-use Rattle.std.specs.Prelude.{◌≡◌, ℕ, ◌+◌, ◌-◌, ◌<◌, ◌≤◌, ◌==◌, nat_le, nat_lt, ◌&&◌, min, Bool, None, List, [], ◌∷◌, ◌++◌, length, filter, sum_by, slice_index_or}
+use Rattle.std.specs.Prelude.{◌≡◌, ℕ, ◌+◌, ◌-◌, ◌<◌, ◌≤◌, ◌==◌, ◌^◌, nat_le, nat_lt, ◌&&◌, Bool, None, Option, List, [], ◌∷◌, ◌++◌, length, filter, sum_by, slice_index_or}
 use Rattle.std.specs.List.{AllByRecursion, range_with_len}
 use Rattle.us_flows.specs.Clusters.{Cluster, Turn}
 use Rattle.us_requests.specs.Cuts.{asked}
 use Rattle.us_requests.specs.Traces.{TraceAsks, asks_in}
 use Rattle.us_output.specs.declared.rows.Grant.{Grant}
-use Rattle.us_output.specs.declared.rows.Row.{Row}
-use Rattle.us_lawful.specs.Runs.{Run}
-use Rattle.us_lawful.specs.Credits.{asked_within, credited_within, is_of, sum_holds}
+use Rattle.us_lawful.specs.declared.place.Place.{Place}
+use Rattle.us_lawful.specs.Credits.{is_of}
 use Rattle.us_credit_rules.specs.declared.ledgers.Account.{Account}
-use Rattle.us_credit_rules.specs.Shorts.{IsFirstRound, short_then}
+use Rattle.us_credit_rules.specs.declared.ledgers.Ledger.{Ledger}
+use Rattle.us_credit_rules.specs.Shorts.{IsFirstRound, flow_place, short_then}
 
 -- Accounts of words.
 
@@ -23,19 +23,19 @@ account_at accounts word = slice_index_or accounts word nothing
 abbrev pub with_asked : ℕ → Account → Account
 with_asked bytes a = record a { asked = a.asked + bytes }
 
--- with a credit more: a credit counts up to all that 64 bits tell, which is more than a trace asks for
-abbrev pub with_credit : ℕ → ℕ → Account → Account
-with_credit round bytes a =
-    let credited : ℕ = min (a.credited + bytes) 18446744073709551615 in
-    record {
-      asked = a.asked;
-      credited = credited;
-      short = short_then round (nat_lt 0 bytes && nat_lt a.asked credited) a.short;
-    }
-
 -- what is outstanding
 abbrev pub left_of : Account → ℕ
 left_of a = a.asked - a.credited
+
+-- A credit more leaves so much less of whatever is asked, in 64 bits.
+pub record TakesCredit (round bytes : ℕ) (before after : Account) : Type 0 where
+  pub asked : after.asked ≡ before.asked
+  pub left : (all : ℕ) → all < 2 ^ 64 → all - after.credited ≡ all - before.credited - bytes
+  pub short : after.short ≡ short_then round (nat_lt (left_of before) bytes) before.short
+
+-- where a cluster is credited more than is outstanding
+abbrev pub sum_place : List Account → Turn → Option Place
+sum_place accounts turn = flow_place turn.cluster.flow.id (account_at accounts turn.number).short
 
 -- Sums over lines of requests.
 
@@ -67,34 +67,19 @@ pub record AreAsked (v : TraceAsks) (begun : ℕ) (accounts : List Account) : Ty
 abbrev pub brought : TraceAsks → ℕ → ℕ → Account → Account
 brought v begun word a = record a { asked = asked_in v begun word }
 
--- what lines credit to a cluster, of which none is of a later round
-pub record IsCredited (v : TraceAsks) (begun : ℕ) (grants : List Grant) (turn : Turn) (a : Account) : Type 0 where
-  pub credited : a.credited ≡ min (credit_within grants begun turn.cluster) 18446744073709551615
-  pub none_later : (round : ℕ) → begun ≤ round → round < v.rounds → credit_in grants round turn.cluster ≡ 0
+-- what is left of whatever a cluster asks for, in 64 bits, and the first round in which it is credited more
+pub record IsCredited (v : TraceAsks) (grants : List Grant) (turn : Turn) (a : Account) : Type 0 where
+  pub left : (all : ℕ) → all < 2 ^ 64 → all - a.credited ≡ all - credit_within grants v.rounds turn.cluster
   pub short : IsFirstRound v.rounds (holds v grants turn) a.short
 
-abbrev pub AreCredited : TraceAsks → List Turn → ℕ → List Grant → List Account → Type 0
-AreCredited v turns begun grants accounts =
-    AllByRecursion (λ turn. IsCredited v begun grants turn (account_at accounts turn.number)) turns
+abbrev pub AreCredited : TraceAsks → List Turn → List Grant → List Account → Type 0
+AreCredited v turns grants accounts =
+    AllByRecursion (λ turn. IsCredited v grants turn (account_at accounts turn.number)) turns
 
--- One line more: what it credits is counted, and the rounds up to its own are begun.
-pub record TakesLine (v : TraceAsks) (turns : List Turn) (g : Grant) (begun : ℕ) (accounts : List Account) (now : ℕ)
-    (after : List Account) : Type 0 where
-  pub ordered : now ≤ g.round + 1
-  pub long : length after ≡ length accounts
-  pub asked : AreAsked v now after
-  pub credited : (grants : List Grant) → AreCredited v turns begun grants accounts →
-      AreCredited v turns now (grants ++ g ∷ []) after
-
--- Behind all lines and rounds.
-
--- what is outstanding of a cluster, and the first round in which it is credited more
-pub record IsAccountOf (run : Run) (lines : List Row) (turn : Turn) (a : Account) : Type 0 where
-  pub left :
-      left_of a
-      ≡ asked_within run run.rounds turn.number - credited_within lines run.rounds turn.cluster
-  pub short : IsFirstRound run.rounds (λ round. sum_holds run lines round turn) a.short
-
-abbrev pub AreAccountsOf : Run → List Row → List Turn → List Account → Type 0
-AreAccountsOf run lines turns accounts =
-    AllByRecursion (λ turn. IsAccountOf run lines turn (account_at accounts turn.number)) turns
+-- One line more, which is of no earlier round than those before it.
+pub record TakesLine (v : TraceAsks) (turns : List Turn) (g : Grant) (before after : Ledger) : Type 0 where
+  pub ordered : after.begun ≤ g.round + 1
+  pub long : length after.accounts.items ≡ length before.accounts.items
+  pub asked : AreAsked v after.begun after.accounts.items
+  pub credited : (grants : List Grant) → AllByRecursion (λ other. other.round ≤ g.round) grants →
+      AreCredited v turns grants before.accounts.items → AreCredited v turns (grants ++ g ∷ []) after.accounts.items

@@ -1,5 +1,5 @@
 -- Read in this order: the clusters that lines name; what they ask for and are credited, and what is left in buckets; which
--- line of a request isn't right; which credit was not asked for; and which F lines and A lines aren't right.
+-- line of a request isn't right; what all these come to; which F lines and A lines aren't right; and what is kept of all lines.
 -- In a definition `≡` is equals, `×` and, `→` implies, `∷` one item before a list, `++` one list behind another, and ℕ
 -- has the whole numbers from 0; `-` stops at 0.
 
@@ -12,14 +12,16 @@ pub mod Ledgers
 -- and what is left in the buckets of flows
 pub mod Buckets
 -- lines of requests that aren't right
-pub mod CreditLines
+pub mod Repeats
 -- all this together
-pub mod Accounts
--- credits that were not asked for
-pub mod Sums
+pub mod Requests
 -- places behind the last round
 pub mod Ends
+-- what lines tell of things there
+pub mod Tellings
 -- F lines that aren't right
 pub mod LastLines
 -- and A lines
 pub mod Activities
+-- all lines
+pub mod CreditLines

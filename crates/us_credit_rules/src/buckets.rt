@@ -90,24 +90,6 @@ impl FlowAccount {
     }
 }
 
-/// The accounts of flows behind the lines of requests, which are in the order of rounds, each at the place of its flow's
-/// first cluster in table order.
-pub(crate) fn flows_of(
-    alloc: Global,
-    time: RunTime,
-    seats: &Seats,
-    requests: &[&Grant],
-) -> Result<Vec<FlowAccount>, AllocError>
-    ensures { IfOk result (λ flows. flows.items ≡
-        spec.credited_all time.rounds time.round_ticks seats.now (map (λ g. g.now) requests.now)) }
-{
-    let mut flows = full_flows(alloc, seats)?;
-    for grant in requests {
-        take(&mut flows, time, seats, grant);
-    }
-    Ok(flows)
-}
-
 /// The account at a place that was looked up; that of no flow where there is none.
 pub(crate) fn account_in(flows: &[FlowAccount], place: Option<u16>) -> FlowAccount
     ensures { result ≡ spec.account_in flows.now place }
@@ -118,8 +100,8 @@ pub(crate) fn account_in(flows: &[FlowAccount], place: Option<u16>) -> FlowAccou
     }
 }
 
-/// Those of all clusters before all rounds.
-fn full_flows(alloc: Global, seats: &Seats) -> Result<Vec<FlowAccount>, AllocError>
+/// The accounts of flows before all rounds, each at the place of its flow's first cluster in table order.
+pub(crate) fn full_flows(alloc: Global, seats: &Seats) -> Result<Vec<FlowAccount>, AllocError>
     ensures { IfOk result (λ flows. flows.items ≡ map (λ turn. spec.full_account turn.cluster.flow.rate turn.cluster.flow.burst) seats.now) }
 {
     let mut flows = Vec::new(alloc);
@@ -129,8 +111,8 @@ fn full_flows(alloc: Global, seats: &Seats) -> Result<Vec<FlowAccount>, AllocErr
     Ok(flows)
 }
 
-/// A line more.
-fn take(flows: &mut [FlowAccount], time: RunTime, seats: &Seats, grant: &Grant)
+/// A line more, which is of no earlier round than those before.
+pub(crate) fn take_credit(flows: &mut [FlowAccount], time: RunTime, seats: &Seats, grant: &Grant)
     requires { length flows.old ≡ length seats.now }
     ensures { flows.new ≡ spec.credited_by time.rounds time.round_ticks seats.now flows.old grant.now }
 {

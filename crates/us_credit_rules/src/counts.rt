@@ -1,27 +1,24 @@
-ghost use Rattle.std.specs.Prelude.{◌≡◌, true, length};
-ghost use Rattle.std.specs.List.{list_any};
-ghost use Rattle.us_lawful.specs.Runs.{run_in, counts_in};
+ghost use Rattle.std.specs.Prelude.{◌≡◌, true};
+ghost use Rattle.us_flows.specs.Tables.{Tables};
+ghost use Rattle.us_lawful.specs.Runs.{Judged, counts_told, run_in};
 ghost use Rattle.us_lawful.specs.Finals.{counts_hold, is_same_counts};
 ghost use Rattle.us_breaches.specs.Breaches.{IsFirstBreach};
+ghost use Rattle.us_credit_rules.specs.CreditLines.{AreCreditLines};
+ghost use Rattle.us_credit_rules.specs.Tellings.{is_once};
 
-use us_flows::Config;
-use us_lawful::{Judged, Place};
+use crate::credit_lines::CreditLines;
+use crate::told::Told;
+use us_lawful::Place;
 use us_requests::Trace;
-use us_round::{Row, TraceCounts};
+use us_round::TraceCounts;
 
 /// The place of the U line, where there is none, are several, or the one doesn't tell the counts of the trace: behind the
 /// last round, with the channel and the third number 0.
-pub fn counts_breach(config: &Config, trace: &Trace, judged: &Judged) -> Option<Place>
-    ensures { IsFirstBreach config.now.channels
-        (λ p. counts_hold (run_in config.now trace.now) judged.now p ≡ true) result }
+pub fn counts_breach(trace: &Trace, lines: &CreditLines) -> Option<Place>
+    ensures { (t : Tables) (judged : Judged) → AreCreditLines t trace.now judged.lines lines.now →
+        IsFirstBreach t.channels (λ p. counts_hold (run_in t trace.now) judged p ≡ true) result }
 {
-    let counts = trace.counts();
-    let wanted = TraceCounts {
-        unknown: u64::from(counts.unknown),
-        not_requestable: u64::from(counts.not_requestable),
-        late: u64::from(counts.late),
-    };
-    if count_told(judged.lines()) == 1 && is_told(judged.lines(), wanted) {
+    if is_told(trace, lines.counts) {
         return None;
     }
     Some(Place {
@@ -31,29 +28,17 @@ pub fn counts_breach(config: &Config, trace: &Trace, judged: &Judged) -> Option<
     })
 }
 
-/// How many U lines there are.
-fn count_told(lines: &[Row]) -> usize
-    ensures { result ≡ length (counts_in lines.now) }
+/// Whether what is told is the counts of the trace, once.
+fn is_told(trace: &Trace, told: Told<TraceCounts>) -> bool
+    ensures { result ≡ is_once (is_same_counts (counts_told trace.now.counts)) told }
 {
-    let mut count = 0;
-    for line in lines {
-        if let Row::Counts(_) = line {
-            count += 1;
+    let counts = trace.counts();
+    match told {
+        Told::Once(line) => {
+            u64::from(counts.unknown) == line.unknown
+                && u64::from(counts.not_requestable) == line.not_requestable
+                && u64::from(counts.late) == line.late
         }
+        Told::Nothing | Told::Several => false,
     }
-    count
-}
-
-/// Whether a U line tells these counts.
-fn is_told(lines: &[Row], wanted: TraceCounts) -> bool
-    ensures { result ≡ list_any (is_same_counts wanted) (counts_in lines.now) }
-{
-    for line in lines {
-        if let Row::Counts(counts) = line
-            && *counts == wanted
-        {
-            return true;
-        }
-    }
-    false
 }

@@ -1,145 +1,103 @@
-ghost use Rattle.std.specs.Prelude.{◌≡◌, ◌*◌, ◌≤◌, ◌&&◌, ◌<◌, Some, not, length, map, slice_set, IfOk};
-ghost use Rattle.std.specs.Option.{option_copied};
-ghost use Rattle.std.specs.List.Sorted.{IsNonDecreasingBy};
-ghost use Rattle.us_flows.specs.Tables as tables;
-ghost use Rattle.us_flows.specs.Clusters as clusters;
-ghost use Rattle.us_flows.specs.Clusters.{table_order};
-ghost use Rattle.us_lawful.specs.Credits as credits;
-ghost use Rattle.us_breaches.specs.Breaches.{IsFirstFailure};
-ghost use Rattle.us_credit_rules.specs.Ends as ends;
+ghost use Rattle.std.specs.Prelude.{◌≡◌, ◌∷◌, ◌++◌, [], true, List, IfOk};
+ghost use Rattle.us_flows.specs.Tables.{rounds_fit};
+ghost use Rattle.us_output.specs.declared.rows.Row.{Row};
 ghost use Rattle.us_credit_rules.specs.CreditLines as spec;
 
-use crate::costs::grant_cost;
-use crate::seats::{Seat, Seats};
-use std::alloc::{AllocError, Global};
-use us_breaches::earlier;
-use us_flows::{Channel, Config};
-use us_lawful::Place;
-use us_round::Grant;
+use crate::requests::Requests;
+use crate::seats::Seats;
+use crate::talkers::Talkers;
+use crate::told::{Tellings, Told};
+use std::alloc::Global;
+use us_flows::Config;
+use us_requests::Trace;
+use us_round::{EntryWord, FinalState, Row, TraceCounts};
+use us_slots::NoMemory;
 
-/// How many keys a cluster has: one for each channel id of 8 bits.
-const KEYS: usize = 256;
-
-/// The bytes of a segment header (the standard's).
-const HEADER_BYTES: u8 = 8;
-
-/// Where a line of a request first isn't right: it names no cluster, has another third number than 0, a SID that isn't
-/// the cluster's on the channel, no credit or another cost than its credit's, or isn't the only one of its cluster,
-/// channel and round. The third number of a place is the id that the line tells. The lines are in the order of rounds.
-pub(crate) fn first_line(
-    alloc: Global,
-    config: &Config,
-    seats: &Seats,
-    requests: &[&Grant],
-) -> Result<Option<Place>, AllocError>
-    requires seats { seats.now ≡ table_order config.now }
-    requires rising { IsNonDecreasingBy (λ g. g.now.round) requests.now }
-    ensures { IfOk result (IsFirstFailure config.now.channels
-        (spec.AreWrong config.now.channels (table_order config.now) (map (λ g. g.now) requests.now))) }
-{
-    let channels = config.channels();
-    let mut last = vec![in alloc; None; seats.all().len() * KEYS]?;
-    let mut first = None;
-    for grant in requests {
-        let told = told_again(seats, &mut last, grant);
-        let right = is_right(channels, seats, grant);
-        first = earlier(channels, first, wrong_place(told, right, grant));
-    }
-    Ok(first)
+/// What is kept of the lines of a report, told one after another.
+pub struct CreditLines<'a> {
+    /// The clusters that make requests, in table order.
+    pub(crate) seats: Seats<'a>,
+    /// What lines of requests come to.
+    pub(crate) requests: Requests,
+    /// What F lines tell of clusters, by their places in table order,
+    pub(crate) finals: Tellings<FinalState>,
+    /// what A lines tell of flows that tell their activity,
+    pub(crate) talkers: Talkers,
+    /// and what U lines tell.
+    pub(crate) counts: Told<TraceCounts>,
 }
 
-/// Whether a line of the cluster and the channel of this one was told in its round. Now one was.
-fn told_again(seats: &Seats, last: &mut [Option<u64>], grant: &Grant) -> bool
-    requires { length seats.now * 256 ≤ length last.old }
-    ensures told { result ≡ spec.is_told last.old (spec.key_of seats.now grant.now) grant.now.round }
-    ensures noted { last.new ≡ spec.noted last.old (spec.key_of seats.now grant.now) grant.now.round }
-{
-    match key_of(seats, grant) {
-        Some(key) => note(last, key, grant.round),
-        None => false,
+/// Gives it up. It is written out so that it is one step wherever it ends.
+impl<'a> Drop for CreditLines<'a> {
+    fn drop(self) {
+        let CreditLines {
+            seats: _,
+            requests: _,
+            finals: _,
+            talkers: _,
+            counts: _,
+        } = self;
     }
 }
 
-/// Whether this is the last round of a key. Now it is.
-fn note(last: &mut [Option<u64>], key: usize, round: u64) -> bool
-    requires { key < length last.old }
-    ensures told { result ≡ spec.is_told last.old (Some key) round }
-    ensures noted { last.new ≡ slice_set last.old key (Some round) }
-{
-    let told = last[key] == Some(round);
-    last[key] = Some(round);
-    told
-}
-
-/// Cluster and channel of a line as one number.
-fn key_of(seats: &Seats, grant: &Grant) -> Option<usize>
-    ensures { result ≡ spec.key_of seats.now grant.now }
-{
-    let place = seats.place(grant.id, grant.i)?;
-    let channel = u8::try_from(grant.channel).ok()?;
-    Some(usize::from(place) * KEYS + usize::from(channel))
-}
-
-/// The place of a line that isn't right, or like one that was told.
-fn wrong_place(told: bool, right: bool, grant: &Grant) -> Option<Place>
-    ensures { result ≡ ends.unless (not told && right) (spec.line_place grant.now) }
-{
-    if right && !told {
-        return None;
+impl<'a> CreditLines<'a> {
+    /// Before all lines.
+    pub fn new(
+        alloc: Global,
+        config: &'a Config,
+        trace: &Trace,
+    ) -> Result<CreditLines<'a>, NoMemory>
+        requires { rounds_fit config.now trace.now.rounds ≡ true }
+        ensures { IfOk result (λ none. spec.AreKept config.now trace.now [] none × (none.requests.latest ≡ 0)) }
+    {
+        let seats = Seats::new(alloc, config)?;
+        let requests = Requests::new(alloc, config, &seats)?;
+        let finals = Tellings::new(alloc, seats.all().len())?;
+        let talkers = Talkers::new(alloc, config)?;
+        Ok(CreditLines {
+            seats,
+            requests,
+            finals,
+            talkers,
+            counts: Told::Nothing,
+        })
     }
-    Some(Place {
-        round: grant.round,
-        channel: grant.channel,
-        third: grant.id,
-    })
-}
 
-/// Whether a line is right for the cluster that it names, whatever other lines there are.
-fn is_right(channels: &[Channel], seats: &Seats, grant: &Grant) -> bool
-    ensures { result ≡ spec.is_right_line channels.now seats.now grant.now }
-{
-    let Some(seat) = seats.find(grant.id, grant.i) else {
-        return false;
-    };
-    grant.k == 0
-        && has_sid(seat, grant.channel, grant.sid)
-        && grant.credit > 0
-        && has_cost(channels, seat, grant)
-}
-
-/// Whether a cluster has this SID on this channel.
-fn has_sid(seat: &Seat, channel: u64, sid: u64) -> bool
-    ensures { result ≡ clusters.has_sid channel sid seat.now.cluster }
-{
-    for (id, own) in seat.flow().channels().iter().zip(seat.sids()) {
-        if u64::from(*id) == channel && u64::from(*own) == sid {
-            return true;
+    /// Whether a line may be told next: it is of no request, or of no earlier round than the requests before it.
+    pub fn is_due(&self, line: &Row) -> bool
+        ensures { result ≡ spec.is_due self.now.requests.latest line.now }
+    {
+        match line {
+            Row::Granted(grant) if grant.entry == EntryWord::Requested => {
+                self.requests.latest <= grant.round
+            }
+            _ => true,
         }
     }
-    false
-}
 
-/// Whether a line has the minislots and the IUC of a grant of its credit behind the header.
-fn has_cost(channels: &[Channel], seat: &Seat, grant: &Grant) -> bool
-    ensures { result ≡ credits.has_cost seat.now.cluster grant.now
-        (tables.channel_with channels.now grant.now.channel) }
-{
-    let Some(channel) = channel_with(channels, grant.channel) else {
-        return false;
-    };
-    let header = if seat.flow().headers() {
-        HEADER_BYTES
-    } else {
-        0
-    };
-    let bytes = u128::from(grant.credit) + u128::from(header);
-    let (slots, iuc) = grant_cost(&channel.bursts, bytes);
-    u128::from(grant.slots) == slots && grant.iuc == u64::from(iuc.number())
-}
-
-/// The channel with this id.
-fn channel_with(channels: &[Channel], id: u64) -> Option<&Channel>
-    ensures { option_copied result ≡ tables.channel_with channels.now id }
-{
-    channels.iter().find(|channel| u64::from(channel.id) == id)
+    /// A line more.
+    pub fn take(&mut self, config: &Config, trace: &Trace, line: &Row)
+        requires due { spec.is_due self.old.requests.latest line.now ≡ true }
+        requires kept { (lines : List Row) × spec.AreKept config.now trace.now lines self.old }
+        ensures kept { (lines : List Row) → spec.AreKept config.now trace.now lines self.old →
+            spec.AreKept config.now trace.now (lines ++ line.now ∷ []) self.new }
+        ensures latest { self.new.requests.latest ≡ spec.latest_behind self.old.requests.latest line.now }
+    {
+        let channels = config.channels();
+        match line {
+            Row::Granted(grant) => {
+                if grant.entry == EntryWord::Requested {
+                    self.requests.take(config, trace, &self.seats, grant);
+                }
+            }
+            Row::Final(state) => {
+                let cluster = self.seats.place(state.flow, state.cluster).map(usize::from);
+                self.finals
+                    .take(channels, trace.rounds(), state.flow, cluster, *state);
+            }
+            Row::Activity(activity) => self.talkers.take(channels, trace.rounds(), *activity),
+            Row::Counts(counts) => self.counts = self.counts.and(*counts),
+            Row::Missed(_) => {}
+        }
+    }
 }

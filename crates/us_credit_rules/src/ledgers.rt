@@ -1,16 +1,11 @@
-ghost use Rattle.std.specs.Prelude.{◌≡◌, ◌+◌, ◌<◌, ◌≤◌, ◌==◌, ◌^◌, ℕ, List, length, replicate, slice_set, map, if◌then◌else◌, IfOk};
-ghost use Rattle.std.specs.List.Sorted.{IsNonDecreasingBy, IsPermutation};
-ghost use Rattle.us_flows.specs.Clusters.{table_order};
+ghost use Rattle.std.specs.Prelude.{◌≡◌, ◌+◌, ◌-◌, ◌<◌, ◌≤◌, ◌==◌, ◌^◌, ℕ, length, replicate, if◌then◌else◌, IfOk};
 ghost use Rattle.us_requests.specs.Cuts.{asked};
-ghost use Rattle.us_output.specs.declared.rows.Row.{Row};
-ghost use Rattle.us_lawful.specs.Runs.{requested_in, run_in};
 ghost use Rattle.us_credit_rules.specs.Ledgers as spec;
 ghost use Rattle.us_credit_rules.specs.Ledgers.{AreAsked};
 ghost use Rattle.us_credit_rules.specs.Seats.{AreNamed};
 
 use crate::seats::Seats;
 use std::alloc::{AllocError, Global};
-use us_flows::Config;
 use us_requests::{Ask, Trace};
 use us_round::Grant;
 
@@ -39,25 +34,24 @@ impl Account {
 
     /// With a credit more.
     fn credited(self, round: u32, bytes: u64) -> Account
-        ensures { result ≡ spec.with_credit round bytes self }
+        ensures { spec.TakesCredit round bytes self result }
     {
-        let credited = self.credited.saturating_add(bytes);
         let short = match self.short {
-            None if bytes > 0 && self.asked < credited => Some(round),
+            None if self.left_of(&self) < bytes => Some(round),
             short => short,
         };
         Account {
             asked: self.asked,
-            credited,
+            credited: self.credited.saturating_add(bytes),
             short,
         }
     }
 
-    /// The bytes that are outstanding.
-    pub(crate) fn left(&self) -> u64
-        ensures { result ≡ spec.left_of self.now }
+    /// The bytes that are left of those that another account asked for.
+    pub(crate) fn left_of(&self, all: &Account) -> u64
+        ensures { result ≡ all.now.asked - self.now.credited }
     {
-        self.asked.saturating_sub(self.credited)
+        all.asked.saturating_sub(self.credited)
     }
 
     /// The round of the first credit of more than was outstanding.
@@ -72,14 +66,14 @@ impl Account {
 #[derive(Drop)]
 pub(crate) struct Ledger {
     /// How many rounds are begun.
-    begun: u32,
+    pub(crate) begun: u32,
     /// By the numbers of words.
-    accounts: Vec<Account>,
+    pub(crate) accounts: Vec<Account>,
 }
 
 impl Ledger {
     /// That of so many words, before all rounds.
-    fn new(alloc: Global, words: usize) -> Result<Ledger, AllocError>
+    pub(crate) fn new(alloc: Global, words: usize) -> Result<Ledger, AllocError>
         ensures { IfOk result (λ ledger. (ledger.begun ≡ 0) × (ledger.accounts.items ≡ replicate words spec.nothing)) }
     {
         let accounts = vec![in alloc; Account::new(); words]?;
@@ -87,12 +81,11 @@ impl Ledger {
     }
 
     /// A line more, which is of no earlier round than the lines before.
-    fn take(&mut self, trace: &Trace, seats: &Seats, grant: &Grant)
+    pub(crate) fn take(&mut self, trace: &Trace, seats: &Seats, grant: &Grant)
         requires ordered { self.old.begun ≤ grant.now.round + 1 }
         requires asked { AreAsked trace.now self.old.begun self.old.accounts.items }
         requires named { AreNamed (length self.old.accounts.items) seats.now }
-        ensures { spec.TakesLine trace.now seats.now grant.now self.old.begun self.old.accounts.items
-            self.new.begun self.new.accounts.items }
+        ensures { spec.TakesLine trace.now seats.now grant.now self.old self.new }
     {
         if grant.round >= u64::from(trace.rounds()) {
             return;
@@ -105,7 +98,7 @@ impl Ledger {
     }
 
     /// Rounds begin, up to so many.
-    fn begin(&mut self, trace: &Trace, rounds: u32)
+    pub(crate) fn begin(&mut self, trace: &Trace, rounds: u32)
         requires later { self.old.begun ≤ rounds }
         requires inside { rounds ≤ trace.now.rounds }
         requires asked { AreAsked trace.now self.old.begun self.old.accounts.items }
@@ -118,29 +111,6 @@ impl Ledger {
         ask_rounds(&mut self.accounts, trace, self.begun, rounds);
         self.begun = rounds;
     }
-}
-
-/// The accounts of all words behind all lines and rounds.
-pub(crate) fn accounts_of(
-    alloc: Global,
-    config: &Config,
-    trace: &Trace,
-    seats: &Seats,
-    requests: &[&Grant],
-) -> Result<Vec<Account>, AllocError>
-    requires seats { seats.now ≡ table_order config.now }
-    requires rising { IsNonDecreasingBy (λ g. g.now.round) requests.now }
-    ensures { IfOk result (λ accounts. (lines : List Row) →
-        IsPermutation (requested_in lines) (map (λ g. g.now) requests.now) →
-        spec.AreAccountsOf (run_in config.now trace.now) lines (table_order config.now) accounts.items) }
-{
-    let mut ledger = Ledger::new(alloc, config.clusters())?;
-    for grant in requests {
-        ledger.take(trace, seats, grant);
-    }
-    ledger.begin(trace, trace.rounds());
-    let Ledger { begun: _, accounts } = ledger;
-    Ok(accounts)
 }
 
 /// The account of a word; that of nothing where there is no such word.
@@ -157,8 +127,9 @@ pub(crate) fn account_at(accounts: &[Account], word: u16) -> Account
 /// A credit of a cluster, in a round.
 fn credit(accounts: &mut [Account], word: u16, round: u32, bytes: u64)
     requires { word < length accounts.old }
-    ensures { accounts.new ≡
-        slice_set accounts.old word (spec.with_credit round bytes (spec.account_at accounts.old word)) }
+    ensures own { spec.TakesCredit round bytes (spec.account_at accounts.old word) (spec.account_at accounts.new word) }
+    ensures others { (other : ℕ) → (other ≡ word → ⊥) →
+        spec.account_at accounts.new other ≡ spec.account_at accounts.old other }
 {
     let word = usize::from(word);
     accounts[word] = accounts[word].credited(round, bytes);

@@ -1,9 +1,9 @@
 //! The rules of credits: how fast flows may be credited, what lines of requests credit, and what a report ends with.
 //!
 //! ```
-//! let judged = Judged::new(maps, lines);
-//! let accounts = Accounts::new(alloc, &config, &trace, &judged)?; // what is asked for and credited
-//! let first = credits_breach(&config, &trace, &judged, &accounts); // the first line or sum that isn't right
+//! let mut lines = CreditLines::new(alloc, &config, &trace)?;
+//! lines.take(&config, &trace, &line); // each line that `is_due`
+//! let first = credits_breach(&config, &lines); // the first line or sum that isn't right
 //! ```
 //!
 //! What they answer stands in `us_lawful`, and what they compute in `specs/`, in the order of its `Lib.antt`.
@@ -13,9 +13,6 @@
 
 // The clusters that lines name.
 mod seats;
-
-// The lines of requests in the order of rounds.
-mod requests;
 
 // Line by line, what clusters ask for and are credited,
 mod ledgers;
@@ -27,41 +24,45 @@ mod buckets;
 mod costs;
 
 // and which line of a request isn't right.
+mod repeats;
+
+// All this, of lines of requests.
+mod requests;
+
+// Places behind the last round,
+mod ends;
+
+// and what lines tell there.
+mod told;
+
+// What A lines tell, and what they should.
+mod talkers;
+
+// What is kept of lines, told one after another,
 mod credit_lines;
 
-// All this, made once for all rules.
-mod accounts;
+// and of those of a report.
+mod reports;
 
 // Where a flow is credited more than its bucket has,
 mod rates;
 
-// a cluster more than is outstanding,
-mod sums;
-
-// and lines and sums of requests together.
+// and lines of requests that aren't right, or credit more than is outstanding.
 mod credits;
 
-// Places behind the last round.
-mod ends;
-
-// F lines.
+// F lines,
 mod finals;
 
-// Which rounds mark flows as silent or as active,
-mod marks;
-
-// the A lines that they lead to,
-mod talkers;
-
-// and those of a report.
+// A lines,
 mod activities;
 
-// The U line.
+// and the U line.
 mod counts;
 
-pub use accounts::Accounts;
 pub use activities::activities_breach;
 pub use counts::counts_breach;
+pub use credit_lines::CreditLines;
 pub use credits::credits_breach;
 pub use finals::finals_breach;
 pub use rates::rates_breach;
+pub use reports::lines_of_report;

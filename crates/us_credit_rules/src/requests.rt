@@ -1,56 +1,67 @@
-ghost use Rattle.std.specs.Prelude.{◌≡◌, map, true, IfOk};
-ghost use Rattle.std.specs.List.Sorted.{IsPermutation, IsNonDecreasingBy};
-ghost use Rattle.us_lawful.specs.Runs.{requested_in};
+ghost use Rattle.std.specs.Prelude.{◌≡◌, ◌≤◌, ◌∷◌, ◌++◌, [], true, List, IfOk};
+ghost use Rattle.us_flows.specs.Tables.{rounds_fit};
+ghost use Rattle.us_flows.specs.Clusters.{table_order};
+ghost use Rattle.us_requests.specs.Traces.{TraceAsks};
+ghost use Rattle.us_output.specs.declared.rows.Grant.{Grant};
+ghost use Rattle.us_credit_rules.specs.Requests as spec;
 
+use crate::buckets::{FlowAccount, RunTime, full_flows, take_credit};
+use crate::ledgers::Ledger;
+use crate::repeats::Repeats;
+use crate::seats::Seats;
 use std::alloc::{AllocError, Global};
-use us_round::{EntryWord, Grant, Row};
+use us_flows::Config;
+use us_requests::Trace;
+use us_round::Grant;
 
-/// The lines of requests, in the order of rounds. A file tells them mostly so: a look tells, and they are sorted only where
-/// it isn't.
-pub(crate) fn requests_of(alloc: Global, lines: &[Row]) -> Result<Vec<&Grant>, AllocError>
-    ensures { IfOk result (λ all. IsPermutation (requested_in lines.now) (map (λ g. g.now) all.items)
-        × IsNonDecreasingBy (λ g. g.now.round) all.items) }
-{
-    let told = requests_told(alloc, lines)?;
-    Ok(in_order(told))
+/// What lines of requests come to, told one after another in the order of rounds.
+#[derive(Drop)]
+pub(crate) struct Requests {
+    /// The latest of their rounds.
+    pub(crate) latest: u64,
+    /// What words ask for and clusters are credited,
+    pub(crate) ledger: Ledger,
+    /// what is left in the buckets of flows, by the places of their first clusters in table order,
+    pub(crate) flows: Vec<FlowAccount>,
+    /// and which line isn't right.
+    pub(crate) repeats: Repeats,
 }
 
-/// The same in the order of the lines.
-fn requests_told(alloc: Global, lines: &[Row]) -> Result<Vec<&Grant>, AllocError>
-    ensures { IfOk result (λ told. map (λ g. g.now) told.items ≡ requested_in lines.now) }
-{
-    let mut told = Vec::new(alloc);
-    for line in lines {
-        if let Row::Granted(grant) = line
-            && grant.entry == EntryWord::Requested
-        {
-            told.push(grant)?;
-        }
+impl Requests {
+    /// Before all lines.
+    pub(crate) fn new(alloc: Global, config: &Config, seats: &Seats) -> Result<Requests, AllocError>
+        requires { seats.now ≡ table_order config.now }
+        ensures kept { IfOk result (λ none. (v : TraceAsks) → rounds_fit config.now v.rounds ≡ true →
+            spec.AreRequests config.now v [] none) }
+        ensures latest { IfOk result (λ none. none.latest ≡ 0) }
+    {
+        let ledger = Ledger::new(alloc, config.clusters())?;
+        let flows = full_flows(alloc, seats)?;
+        let repeats = Repeats::new(alloc, seats)?;
+        Ok(Requests {
+            latest: 0,
+            ledger,
+            flows,
+            repeats,
+        })
     }
-    Ok(told)
-}
 
-/// Lines in the order of rounds.
-fn in_order(mut lines: Vec<&Grant>) -> Vec<&Grant>
-    ensures same { IsPermutation (map (λ g. g.now) lines.entry.items) (map (λ g. g.now) result.items) }
-    ensures rising { IsNonDecreasingBy (λ g. g.now.round) result.items }
-{
-    if !is_in_order(&lines) {
-        lines.sort_unstable_by_key(|line| line.round);
+    /// A line more.
+    pub(crate) fn take(&mut self, config: &Config, trace: &Trace, seats: &Seats, grant: &Grant)
+        requires due { self.old.latest ≤ grant.now.round }
+        requires seats { seats.now ≡ table_order config.now }
+        requires told { (grants : List Grant) × spec.AreRequests config.now trace.now grants self.old }
+        ensures kept { (grants : List Grant) → spec.AreRequests config.now trace.now grants self.old →
+            spec.AreRequests config.now trace.now (grants ++ grant.now ∷ []) self.new }
+        ensures latest { self.new.latest ≡ grant.now.round }
+    {
+        let time = RunTime {
+            rounds: trace.rounds(),
+            round_ticks: config.round_ticks(),
+        };
+        take_credit(&mut self.flows, time, seats, grant);
+        self.ledger.take(trace, seats, grant);
+        self.repeats.take(config.channels(), seats, grant);
+        self.latest = grant.round;
     }
-    lines
-}
-
-/// Whether lines are in the order of rounds.
-fn is_in_order(lines: &[&Grant]) -> bool
-    ensures { result ≡ true → IsNonDecreasingBy (λ g. g.now.round) lines.now }
-{
-    let mut last = 0;
-    for line in lines {
-        if line.round < last {
-            return false;
-        }
-        last = line.round;
-    }
-    true
 }

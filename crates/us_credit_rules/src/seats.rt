@@ -66,7 +66,7 @@ impl<'a> Seats<'a> {
         if id >= IDS || list >= LISTS {
             return None;
         }
-        place_at(places, id as u32 * LISTS as u32 + list as u32)
+        place_at(places, id * LISTS + list)
     }
 
     /// The cluster at a place of the flow with an id.
@@ -115,13 +115,6 @@ impl<'a> Seat<'a> {
         ensures { result ≡ self.now.number }
     {
         self.word
-    }
-
-    /// Its place among the clusters of its flow.
-    pub(crate) fn list(&self) -> usize
-        ensures { result ≡ self.now.cluster.list }
-    {
-        self.list
     }
 
     /// Its flow.
@@ -195,7 +188,7 @@ fn places_of(alloc: Global, seats: &[Seat]) -> Result<Vec<Option<u16>>, AllocErr
     let mut places = Vec::new(alloc);
     for (place, seat) in seats.iter().enumerate() {
         let code = seat.code();
-        if place_at(&places, code).is_none() {
+        if place_at(&places, u64::from(code)).is_none() {
             put(&mut places, code, place as u16)?;
         }
     }
@@ -203,7 +196,7 @@ fn places_of(alloc: Global, seats: &[Seat]) -> Result<Vec<Option<u16>>, AllocErr
 }
 
 /// The place of this code, if it has one.
-fn place_at(places: &[Option<u16>], code: u32) -> Option<u16>
+pub(crate) fn place_at(places: &[Option<u16>], code: u64) -> Option<u16>
     ensures { result ≡ slice_index_or places.now code None }
 {
     let at = code as usize;
@@ -214,7 +207,7 @@ fn place_at(places: &[Option<u16>], code: u32) -> Option<u16>
 }
 
 /// Gives a code a place.
-fn put(places: &mut Vec<Option<u16>>, code: u32, place: u16) -> Result<(), AllocError>
+pub(crate) fn put(places: &mut Vec<Option<u16>>, code: u32, place: u16) -> Result<(), AllocError>
     ensures { OnOk result ((other : ℕ) → slice_index_or places.new.items other None ≡
         (if code == other then Some place else slice_index_or places.old.items other None)) }
 {

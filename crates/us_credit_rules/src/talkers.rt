@@ -1,14 +1,21 @@
-ghost use Rattle.std.specs.Prelude.{◌≡◌, ◌+◌, ◌<◌, length, map, IfOk};
-ghost use Rattle.std.specs.List.{AllByRecursion};
+ghost use Rattle.std.specs.Prelude.{◌≡◌, ◌==◌, ◌++◌, ◌∷◌, [], ℕ, None, List, length, map, slice_index_or, IfOk};
+ghost use Rattle.std.specs.List.{list_any};
+ghost use Rattle.std.specs.Option.{is_some};
+ghost use Rattle.us_flows.specs.Tables.{Tables};
+ghost use Rattle.us_requests.specs.Traces.{TraceAsks};
+ghost use Rattle.us_output.specs.declared.rows.FinalActivity.{FinalActivity};
 ghost use Rattle.us_lawful.specs.Runs.{run_in};
 ghost use Rattle.us_lawful.specs.Finals.{talking};
 ghost use Rattle.us_credit_rules.specs.Activities as spec;
 
-use crate::marks::up_to_marks;
+use crate::seats::{place_at, put};
+use crate::told::Tellings;
 use std::alloc::{AllocError, Global};
-use us_flows::Config;
+use us_activity::Activities;
+use us_flows::{Channel, Config};
 use us_requests::Trace;
 use us_round::FinalActivity;
+use us_slots::NoMemory;
 
 /// A flow that tells its activity.
 #[derive(Clone, Copy)]
@@ -19,21 +26,92 @@ pub(crate) struct Talker {
     word: u16,
 }
 
+/// What A lines tell of the flows that tell their activity.
+#[derive(Drop)]
+pub(crate) struct Talkers {
+    /// By ids, whether a flow is one of them.
+    ids: Vec<Option<u16>>,
+    /// By ids, what is told of it.
+    pub(crate) told: Tellings<FinalActivity>,
+}
+
+impl Talkers {
+    /// Before all lines.
+    pub(crate) fn new(alloc: Global, config: &Config) -> Result<Talkers, AllocError>
+        ensures { IfOk result (λ none. (v : TraceAsks) → spec.AreTalkers config.now v [] none) }
+    {
+        let talkers = talkers_of(alloc, config)?;
+        let ids = ids_of(alloc, &talkers)?;
+        let told = Tellings::new(alloc, ids.len())?;
+        Ok(Talkers { ids, told })
+    }
+
+    /// A line more.
+    pub(crate) fn take(&mut self, channels: &[Channel], rounds: u32, line: FinalActivity)
+        ensures { (t : Tables) (v : TraceAsks) (lines : List FinalActivity) → channels.now ≡ t.channels →
+            rounds ≡ v.rounds → spec.AreTalkers t v lines self.old → spec.AreTalkers t v (lines ++ line ∷ []) self.new }
+    {
+        let known = place_at(&self.ids, line.flow).is_some();
+        let talker = if known {
+            Some(line.flow as usize)
+        } else {
+            None
+        };
+        self.told.take(channels, rounds, line.flow, talker, line);
+    }
+}
+
+/// By ids, whether one of these flows has that.
+fn ids_of(alloc: Global, talkers: &[Talker]) -> Result<Vec<Option<u16>>, AllocError>
+    ensures { IfOk result (λ ids. (id : ℕ) →
+        is_some (slice_index_or ids.items id None) ≡ list_any (λ talker. talker.id == id) talkers.now) }
+{
+    let mut ids = Vec::new(alloc);
+    for talker in talkers {
+        put(&mut ids, u32::from(talker.id), talker.id)?;
+    }
+    Ok(ids)
+}
+
 /// The A lines that a run should end with: of each flow that tells its activity, in table order, what its last mark says.
 pub(crate) fn wanted(
     alloc: Global,
     config: &Config,
     trace: &Trace,
-) -> Result<Vec<FinalActivity>, AllocError>
+) -> Result<Vec<FinalActivity>, NoMemory>
     ensures { IfOk result (λ wanted. wanted.items ≡ spec.wanted (run_in config.now trace.now)) }
 {
     let talkers = talkers_of(alloc, config)?;
-    if talkers.is_empty() {
-        return Ok(Vec::new(alloc));
-    }
-    let rounds = up_to_marks(alloc, config.clusters(), trace)?;
-    let lines = lines_of(alloc, &rounds, &talkers)?;
+    let activities = Activities::of(alloc, config, trace)?;
+    let lines = lines_of(alloc, &activities, trace.rounds(), &talkers)?;
     Ok(lines)
+}
+
+/// Those of these flows, behind so many rounds.
+fn lines_of(
+    alloc: Global,
+    activities: &Activities,
+    rounds: u32,
+    talkers: &[Talker],
+) -> Result<Vec<FinalActivity>, AllocError>
+    ensures { IfOk result (λ lines. lines.items ≡ map (spec.line_of activities.now rounds) talkers.now) }
+{
+    let mut lines = Vec::new(alloc);
+    for talker in talkers {
+        lines.push(line_of(activities, rounds, talker))?;
+    }
+    Ok(lines)
+}
+
+/// The A line of a flow behind so many rounds.
+fn line_of(activities: &Activities, rounds: u32, talker: &Talker) -> FinalActivity
+    ensures { result ≡ spec.line_of activities.now rounds talker.now }
+{
+    let active = activities.is_active(talker.word, u128::from(rounds));
+    FinalActivity {
+        flow: u64::from(talker.id),
+        active: u64::from(active),
+    }
 }
 
 /// The flows that tell their activity, in table order.
@@ -52,33 +130,4 @@ fn talkers_of(alloc: Global, config: &Config) -> Result<Vec<Talker>, AllocError>
         word += flow.words() as u16;
     }
     Ok(talkers)
-}
-
-/// Their A lines, where so many rounds go up to the last mark of each word.
-fn lines_of(
-    alloc: Global,
-    rounds: &[u32],
-    talkers: &[Talker],
-) -> Result<Vec<FinalActivity>, AllocError>
-    requires { AllByRecursion (λ talker. talker.word + 1 < length rounds.now) talkers.now }
-    ensures { IfOk result (λ lines. lines.items ≡ map (spec.line_of rounds.now) talkers.now) }
-{
-    let mut lines = Vec::new(alloc);
-    for talker in talkers {
-        lines.push(line_of(rounds, *talker))?;
-    }
-    Ok(lines)
-}
-
-/// Its A line: it is silent if it was marked so behind its last mark as active.
-fn line_of(rounds: &[u32], talker: Talker) -> FinalActivity
-    requires { talker.word + 1 < length rounds.now }
-    ensures { result ≡ spec.line_of rounds.now talker }
-{
-    let silent = usize::from(talker.word);
-    let active = rounds[silent] <= rounds[silent + 1];
-    FinalActivity {
-        flow: u64::from(talker.id),
-        active: u64::from(active),
-    }
 }

@@ -1,5 +1,5 @@
 -- Elements that are the regions one after another, and the gaps between them.
-use Rattle.std.proofs.Common.{◌≡◌, ℕ, suc, ◌+◌, ◌-◌, ◌<◌, ◌≤◌, ◌⊎◌, true, List, [], ◌∷◌, ◌++◌, map, None, refl, sym, ap, ◌∙◌, subst, append-nil, length, get_or, drop, drop-cons, add-one, arith, inl, inr}
+use Rattle.std.proofs.Common.{◌≡◌, ℕ, suc, ◌+◌, ◌<◌, ◌≤◌, true, List, [], ◌∷◌, ◌++◌, map, refl, sym, ap, ◌∙◌, subst, append-nil, length, get_or, drop, drop-cons, add-one, arith, inl, inr}
 use Rattle.std.proofs.lemmas.Bool.{le-ltb, lt-ltb}
 use Rattle.std.proofs.lemmas.List.{drop_all}
 use Rattle.us_flows.specs.declared.channels.Channel.{Channel}
@@ -8,7 +8,7 @@ use Rattle.us_holes.specs.Runs.{InOrder, runs_between, idle_run}
 use Rattle.us_lawful.specs.Regions.{Region, end_of, minislot_holds}
 use Rattle.us_lawful.specs.Laws.{region_for, element_region_for}
 use Rattle.us_lawful.proofs.RegionLemmas.{ordered_assignments_hold}
-use Rattle.us_map_rules.specs.Minislots.{IsBehindGap, gap_between}
+use Rattle.us_map_rules.specs.Minislots.{IsBehindGap}
 
 -- a region as an assignment
 abbrev pub assignment_of : Region → Assignment

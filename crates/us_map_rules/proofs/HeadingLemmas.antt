@@ -1,18 +1,25 @@
 -- What MAPs say of themselves: which MAP of a run stands where, and the first that isn't that of the run.
-use Rattle.std.proofs.Common.{◌≡◌, ◌==◌, ℕ, zero, suc, ◌+◌, ◌*◌, ◌/◌, ◌%◌, ◌<◌, ◌≤◌, Bool, true, false, List, [], ◌∷◌, ◌++◌, length, map, get_or, Option, Some, None, IsTrue, ◌↔◌, refl, sym, subst, ap, ap₂, ◌∙◌, arith, eq-eqb, ltb-true, zero-add, inl, inr}
+use Rattle.std.proofs.Common.{◌≡◌, ◌==◌, ℕ, zero, suc, ◌+◌, ◌*◌, ◌/◌, ◌%◌, ◌<◌, ◌≤◌, Bool, true, false, List, [], ◌∷◌, ◌++◌, length, map, get_or, Option, Some, None, Ok, IsTrue, ◌↔◌, refl, sym, subst, ap, ap₂, ◌∙◌, arith, eq-eqb, ltb-true, zero-add, inl, inr}
 use Rattle.std.specs.Prelude.{slice_get, flat_map, option_map}
 use Rattle.std.specs.List.{range_with_len}
 use Rattle.std.proofs.Math.Nat.{mod-lt, mul-le-mul_right}
 use Rattle.std.proofs.lemmas.Bool.{cases_Bool, cases_lt, false≢true}
 use Rattle.std.proofs.lemmas.Nat.{div-add-mod'}
-use Rattle.std.proofs.lemmas.List.{length-append, length-map}
+use Rattle.std.proofs.lemmas.List.{length-append, length-map, map-append}
 use Rattle.std.proofs.lemmas.Option.{slice_get_past, slice_get-map, slice_get-get_or}
+use Rattle.us_codec.specs.MapsFiles.{record_bytes}
 use Rattle.us_flows.specs.declared.channels.Channel.{Channel}
+use Rattle.us_lawful.specs.declared.judged.RoundMap.{RoundMap}
 use Rattle.us_lawful.specs.declared.place.Place.{Place}
+use Rattle.us_lawful.specs.Lawful.{IsRoundMap}
+use Rattle.us_lawful.specs.Texts.{record_of}
 use Rattle.us_lawful.specs.Runs.{Run, Judged}
 use Rattle.us_lawful.specs.Headings.{Heading, heading_told, heading_of, headings_of, HeadingsHold}
 use Rattle.us_breaches.specs.Order.{goes_before}
 use Rattle.us_breaches.specs.Breaches.{IsFirstBreach}
+use Rattle.us_map_rules.specs.MapsReading.{Answers, BeginsNoRecord, IsFirstBadRecord}
+use Rattle.us_map_rules.specs.Headings.{IsOtherWith}
+use Rattle.us_map_rules.proofs.MapsLemmas.{Read, read_all, read_more, read_nothing}
 
 -- Lists, one behind another.
 
@@ -63,7 +70,7 @@ one_length : (run : Run) (round : ℕ) → length (part_of run round) ≡ length
 one_length run round = length-map run.tables.channels (heading_of run.tables round)
 
 -- there are as many as rounds and channels make
-pub length_headings : (run : Run) → length (headings_of run) ≡ run.rounds * length run.tables.channels
+length_headings : (run : Run) → length (headings_of run) ≡ run.rounds * length run.tables.channels
 length_headings run = length_parts (part_of run) (length run.tables.channels) 0 run.rounds (one_length run)
 
 -- the one of a number is of this round and channel,
@@ -117,14 +124,87 @@ told_nowhere run channels n said answer same past says_none =
     let none = no_heading run n (rw same at past) in
     (λ yes. absurd (false≢true (sym says_none ∙ yes)), λ told. absurd (cc (told, none)))
 
--- The first breach.
+-- The first that isn't that of the run.
 
 -- each MAP before this number says what it must
-abbrev pub AgreeTo : Run → Judged → ℕ → Type 0
-AgreeTo run judged n = (i : ℕ) → i < n → slice_get (map heading_told judged.maps) i ≡ slice_get (headings_of run) i
+abbrev AgreeTo : Run → List RoundMap → ℕ → Type 0
+AgreeTo run maps n = (i : ℕ) → i < n → slice_get (map heading_told maps) i ≡ slice_get (headings_of run) i
+
+-- all of these do; or this is the first that doesn't
+abbrev IsFirstOther : Run → List RoundMap → Option ℕ → Type 0
+IsFirstOther run maps None = AgreeTo run maps (length maps)
+IsFirstOther run maps (Some n) =
+    (n < length maps) × AgreeTo run maps n
+    × (slice_get (map heading_told maps) n ≡ slice_get (headings_of run) n → ⊥)
+
+-- with one MAP more
+told_front : (maps : List RoundMap) (m : RoundMap) (i : ℕ) → i < length maps →
+    slice_get (map heading_told (maps ++ m ∷ [])) i ≡ slice_get (map heading_told maps) i
+told_front maps m i inside =
+    ap (λ hs. slice_get hs i) (map-append heading_told maps (m ∷ []))
+    ∙ get_front (map heading_told maps) (heading_told m ∷ []) i (omega (arith, length-map maps heading_told, inside))
+
+told_last : (maps : List RoundMap) (m : RoundMap) →
+    slice_get (map heading_told (maps ++ m ∷ [])) (length maps) ≡ Some (heading_told m)
+told_last maps m =
+    ap (λ hs. slice_get hs (length maps)) (map-append heading_told maps (m ∷ []))
+    ∙ get_back (map heading_told maps) (heading_told m ∷ []) (length maps) 0 (omega (arith, length-map maps heading_told))
+
+agree_on : (run : Run) (maps : List RoundMap) (m : RoundMap) (n : ℕ) → n ≤ length maps → AgreeTo run maps n →
+    AgreeTo run (maps ++ m ∷ []) n
+agree_on run maps m n within agree i less = told_front maps m i (omega (arith, less, within)) ∙ agree i less
+
+other_next : (run : Run) (maps : List RoundMap) (m : RoundMap) (known next : Option ℕ) →
+    IsOtherWith run (length maps) m known next → IsFirstOther run maps known → IsFirstOther run (maps ++ m ∷ []) next
+other_next run maps m (Some n) next same before =
+    subst (IsFirstOther run (maps ++ m ∷ [])) (sym same) (
+      omega (arith, before.0, length-append maps (m ∷ [])),
+      agree_on run maps m n (omega (arith, before.0)) before.1,
+      λ is. before.2 (sym (told_front maps m n before.0) ∙ is),
+    )
+other_next run maps m None None is before = λ i less. elim (cases_lt i (length maps)) [
+  | inl early ↦ told_front maps m i early ∙ before i early
+  | inr late ↦
+      let last : i ≡ length maps = omega (arith, less, late, length-append maps (m ∷ [])) in
+      ap (slice_get (map heading_told (maps ++ m ∷ []))) last ∙ told_last maps m ∙ sym is
+      ∙ ap (slice_get (headings_of run)) (sym last)
+]
+other_next run maps m None (Some n) is before = subst (λ n. IsFirstOther run (maps ++ m ∷ []) (Some n)) (sym is.0) (
+  omega (arith, length-append maps (m ∷ [])),
+  agree_on run maps m (length maps) (omega arith) before,
+  λ same. is.1 (sym same ∙ told_last maps m),
+)
+
+-- The walk over the records of a file: these are done, and this is left.
+pub record Walked (run : Run) (bytes rest : List ℕ) (number : ℕ) (other : Option ℕ) : Type 0 where
+  pub done : List RoundMap
+  pub read : Read bytes done rest
+  pub count : length done ≡ number
+  pub judged : IsFirstOther run done other
+
+pub walked_nothing : (run : Run) (bytes : List ℕ) → Walked run bytes bytes 0 None
+walked_nothing run bytes = record {
+  done = [];
+  read = read_nothing bytes;
+  count = refl;
+  judged = λ i less. absurd (omega (arith, less));
+}
+
+pub walked_on : (run : Run) (bytes rest behind : List ℕ) (number : ℕ) (m : RoundMap) (known next : Option ℕ) →
+    IsRoundMap m → rest ≡ record_bytes (record_of m) ++ behind → IsOtherWith run number m known next →
+    Walked run bytes rest number known → Walked run bytes behind (number + 1) next
+walked_on run bytes rest behind number m known next is begins with walked = record {
+  done = walked.done ++ m ∷ [];
+  read = read_more bytes rest behind walked.done m walked.read is begins;
+  count = omega (arith, length-append walked.done (m ∷ []), walked.count);
+  judged = other_next run walked.done m known next
+      (subst (λ n. IsOtherWith run n m known next) (sym walked.count) with) walked.judged;
+}
+
+-- The first breach.
 
 -- the place of a MAP
-abbrev pub record_at : ℕ → Place
+abbrev record_at : ℕ → Place
 record_at n = record { round = 0; channel = 0; third = n }
 
 -- a place before that of a number is of another channel, or of a smaller number
@@ -135,22 +215,19 @@ below channels p n before channel = elim (cases_Bool (p.round == 0)) [
   | inr later ↦ absurd (omega (arith, ltb-true p.round 0 (rw later at before)))
 ]
 
--- the first MAP that doesn't
-first_other : (channels : List Channel) (run : Run) (judged : Judged) (n : ℕ) → AgreeTo run judged n →
+first_other : (run : Run) (judged : Judged) (n : ℕ) → AgreeTo run judged.maps n →
     (slice_get (map heading_told judged.maps) n ≡ slice_get (headings_of run) n → ⊥) →
-    IsFirstBreach channels (HeadingsHold run judged) (Some (record_at n))
-first_other channels run judged n agree other =
-    (λ holds. other (holds refl refl), λ p before _ channel. agree p.third (below channels p n before channel))
+    IsFirstBreach run.tables.channels (HeadingsHold run judged) (Some (record_at n))
+first_other run judged n agree other =
+    (λ holds. other (holds refl refl), λ p before _ channel. agree p.third (below run.tables.channels p n before channel))
 
--- all MAPs, and none is missing
-pub all_agree : (channels : List Channel) (run : Run) (judged : Judged) (n : ℕ) → AgreeTo run judged n →
-    length judged.maps ≤ n → length (headings_of run) ≤ n → IsFirstBreach channels (HeadingsHold run judged) None
-all_agree channels run judged n agree few_maps few_headings = λ p _ _. elim (cases_lt p.third n) [
+all_agree : (run : Run) (judged : Judged) → AgreeTo run judged.maps (length judged.maps) →
+    length (headings_of run) ≤ length judged.maps → IsFirstBreach run.tables.channels (HeadingsHold run judged) None
+all_agree run judged agree few = λ p _ _. elim (cases_lt p.third (length judged.maps)) [
   | inl inside ↦ agree p.third inside
   | inr past ↦
-      slice_get_past (map heading_told judged.maps) p.third
-      (omega (arith, length-map judged.maps heading_told, few_maps, past))
-      ∙ sym (slice_get_past (headings_of run) p.third (omega (arith, few_headings, past)))
+      slice_get_past (map heading_told judged.maps) p.third (omega (arith, length-map judged.maps heading_told, past))
+      ∙ sym (slice_get_past (headings_of run) p.third (omega (arith, few, past)))
 ]
 
 -- a list has its items
@@ -160,12 +237,34 @@ get_within (x ∷ xs) zero inside none = cc
 get_within (x ∷ xs) (suc n) inside none = get_within xs n (omega arith) none
 
 -- where all MAPs agree and there are too few of them, the first that is missing is that
-pub first_missing : (channels : List Channel) (run : Run) (judged : Judged) (n : ℕ) → AgreeTo run judged n →
-    length judged.maps ≤ n → length judged.maps < length (headings_of run) →
-    IsFirstBreach channels (HeadingsHold run judged) (Some (record_at (length judged.maps)))
-first_missing channels run judged n agree all few =
+first_missing : (run : Run) (judged : Judged) → AgreeTo run judged.maps (length judged.maps) →
+    length judged.maps < length (headings_of run) →
+    IsFirstBreach run.tables.channels (HeadingsHold run judged) (Some (record_at (length judged.maps)))
+first_missing run judged agree few =
     let m : ℕ = length judged.maps in
     let none : slice_get (map heading_told judged.maps) m ≡ None =
     slice_get_past (map heading_told judged.maps) m (omega (arith, length-map judged.maps heading_told)) in
-    first_other channels run judged m (λ i inside. agree i (omega (arith, inside, all)))
-    (λ same. get_within (headings_of run) m few (sym same ∙ none))
+    first_other run judged m agree (λ same. get_within (headings_of run) m few (sym same ∙ none))
+
+-- What is answered where nothing is left.
+
+module _ (run : Run) (bytes rest : List ℕ) (over : length rest ≤ 0) (number : ℕ) where
+  pub answer_missing : number < run.rounds * length run.tables.channels → Walked run bytes rest number None →
+      Answers run bytes (Ok (Some (record_at number)))
+  answer_missing few walked = (
+    walked.done,
+    read_all bytes rest walked.done over walked.read,
+    λ lines. subst (λ n. IsFirstBreach run.tables.channels
+        (HeadingsHold run (record { maps = walked.done; lines = lines })) (Some (record_at n))) walked.count
+        (first_missing run (record { maps = walked.done; lines = lines }) walked.judged
+        (omega (arith, few, walked.count, length_headings run))),
+  )
+
+  pub answer_none : run.rounds * length run.tables.channels ≤ number → Walked run bytes rest number None →
+      Answers run bytes (Ok None)
+  answer_none enough walked = (
+    walked.done,
+    read_all bytes rest walked.done over walked.read,
+    λ lines. all_agree run (record { maps = walked.done; lines = lines }) walked.judged
+        (omega (arith, enough, walked.count, length_headings run)),
+  )

@@ -5,8 +5,7 @@ pub mod HeadingLemmas
 pub mod PartLemmas
 pub mod FollowLemmas
 pub mod PieceLemmas
-pub mod LineLemmas
 pub mod MapRegionLemmas
+pub mod ToldLemmas
 pub mod TableLemmas
 pub mod RegionRuleLemmas
-pub mod PlacedLemmas

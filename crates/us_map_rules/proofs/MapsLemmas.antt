@@ -1,5 +1,5 @@
 -- Maps files: what bytes are read as, and that they are read as nothing else.
-use Rattle.std.proofs.Common.{◌≡◌, ℕ, ◌<◌, List, [], ◌∷◌, ◌++◌, length, map, Ok, Err, refl, sym, ap, ap₂, ◌∙◌, arith, append_assoc, append-nil}
+use Rattle.std.proofs.Common.{◌≡◌, ℕ, ◌<◌, ◌≤◌, List, [], ◌∷◌, ◌++◌, length, map, Ok, Err, refl, sym, ap, ap₂, ◌∙◌, arith, append_assoc, append-nil}
 use Rattle.std.specs.List.{AllByRecursion}
 use Rattle.std.proofs.lemmas.List.{map-append}
 use Rattle.std.proofs.lemmas.Grind.{flat_map-append}
@@ -42,6 +42,10 @@ read_more bytes rest behind done m read is begins = record {
       ∙ sym (append_assoc (file_of done) (record_bytes (record_of m)) behind)
       ∙ ap (λ front. front ++ behind) (sym (file_more done m));
 }
+
+pub read_all : (bytes rest : List ℕ) (maps : List RoundMap) → length rest ≤ 0 → Read bytes maps rest → IsMapsOf bytes maps
+read_all bytes [] maps over read = record { each = read.each; spelled = read.spelled ∙ append-nil (file_of maps) }
+read_all bytes (b ∷ rest) maps over read = absurd (omega (arith, over))
 
 pub less_left : (rest behind : List ℕ) (m : RoundMap) → rest ≡ record_bytes (record_of m) ++ behind →
     length behind < length rest

@@ -1,12 +1,12 @@
 -- The first minislot at which each part of the rule fails, and from them that of all.
-use Rattle.std.proofs.Common.{◌≡◌, ℕ, zero, suc, ◌+◌, ◌-◌, ◌<◌, ◌≤◌, ◌==◌, ◌⊎◌, Bool, true, false, List, [], ◌∷◌, ◌++◌, map, cond, zero-add, Option, Some, None, option_map, refl, sym, ap, ◌∙◌, subst, arith, inl, inr, if◌then◌else◌}
-use Rattle.std.specs.Prelude.{count_by, find, nat_lt, nat_le, ◌&&◌, ◌||◌, not}
+use Rattle.std.proofs.Common.{◌≡◌, ℕ, ◌+◌, ◌<◌, ◌≤◌, ◌==◌, Bool, true, false, List, [], ◌∷◌, cond, zero-add, Option, Some, None, refl, sym, ap, ◌∙◌, subst, arith, inl, inr}
+use Rattle.std.specs.Prelude.{nat_lt, nat_le, ◌&&◌, ◌||◌, not}
 use Rattle.std.specs.List.{AllByRecursion, list_all, list_any}
-use Rattle.std.proofs.lemmas.Bool.{cases_Bool, cases_lt, eq-eqb, le-ltb, lt-ltb, le-leb, or_right, or_left, ltb-true, ltb-false, leb-true, leb-false, eqb-true, false≢true}
+use Rattle.std.proofs.lemmas.Bool.{cases_Bool, cases_lt, eq-eqb, le-ltb, lt-ltb, le-leb, or_right, or_left, ltb-true, ltb-false}
 use Rattle.std.proofs.lemmas.Bool.Decides.{nat_tests}
 use Rattle.std.proofs.lemmas.List.Sums.{sum_by-cons}
 use Rattle.us_flows.specs.declared.channels.Channel.{Channel}
-use Rattle.us_lawful.specs.Regions.{Region, end_of, covers, holder_count, is_right_element, none_empty_at, inside_holds, end_holds, minislot_holds}
+use Rattle.us_lawful.specs.Regions.{Region, end_of, covers, holder_count, is_right_element, none_empty_at, end_holds, minislot_holds}
 use Rattle.us_map_rules.specs.Minislots.{IsFirstFailing, lesser, owners_hold, element_holds, AreByStart, AreSideBySide, right_up_to, first_empty, first_shared, first_wrong, first_outside}
 
 -- Tests.

@@ -1,15 +1,24 @@
--- The elements of a MAP: how they are read off, and that they stand side by side.
-use Rattle.std.proofs.Common.{◌≡◌, ◌≢◌, ℕ, suc, ◌+◌, ◌-◌, ◌<◌, ◌≤◌, ◌==◌, true, false, List, [], ◌∷◌, ◌++◌, map, length, get_or, drop, drop-cons, refl, sym, ap, ◌∙◌, subst, append_assoc, append-nil, length-drop, Option, Some, None, IfSome, arith, inl, inr}
+-- The elements of a MAP: that they stand side by side, and how they are read where they stand.
+use Rattle.std.proofs.Common.{◌≡◌, ◌≢◌, ◌↔◌, ℕ, ◌-◌, ◌<◌, ◌≤◌, List, [], ◌∷◌, ◌++◌, map, length, get_or, drop, slice_get, refl, sym, ap, ◌∙◌, subst, append_assoc, append-nil, length-append, length-drop, arith, inl, inr}
+use Rattle.std.specs.Int.{from_be_bytes, w32}
 use Rattle.std.specs.List.{AllByRecursion}
-use Rattle.std.proofs.lemmas.Bool.{eq-eqb, ne_eqb}
-use Rattle.std.proofs.lemmas.List.{drop_all}
+use Rattle.std.proofs.lemmas.Bool.{cases_eq, cases_lt, eq-eqb, ne_eqb}
+use Rattle.std.proofs.lemmas.List.{drop_at}
 use Rattle.us_slots.specs.UsageCodes as codes
-use Rattle.us_codec.specs.Elements.{MapElement, null_at}
-use Rattle.us_codec.specs.Bodies.{MapBody, IsMapBody, IsRising, StartsAtZero}
+use Rattle.us_codec.specs.Elements.{MapElement, element_of, null_at}
+use Rattle.us_codec.specs.Bodies.{MapBody, IsMapBody, IsRising, StartsAtZero, element_bytes, front, spelling}
+use Rattle.us_codec.specs.Faults.{elements_at}
+use Rattle.us_codec.specs.MapsFiles.{Piece, IsPiece, maps_file, record_bytes}
+use Rattle.us_codec.proofs.WordLemmas.{elements-of-element_bytes}
 use Rattle.us_lawful.specs.declared.judged.RoundMap.{RoundMap}
 use Rattle.us_lawful.specs.Regions.{Region, element_regions, map_regions, end_of}
+use Rattle.us_lawful.specs.Texts.{record_of}
+use Rattle.us_map_rules.specs.MapsReading.{BeginsNoPiece, IsMapsOf}
 use Rattle.us_map_rules.specs.Pieces.{piece_of}
 use Rattle.us_map_rules.specs.Minislots.{AreSideBySide}
+use Rattle.us_map_rules.proofs.MapsLemmas.{file_of}
+use Rattle.us_map_rules.proofs.RecordLemmas as records
+use Rattle.us_map_rules.proofs.RecordLemmas.{length_record, record_is_piece}
 
 -- the first of these elements
 one_piece : (e next : MapElement) (es : List MapElement) → e.iuc ≢ codes.null →
@@ -27,47 +36,6 @@ unfolding element_regions
 few_pieces [] few = refl
 few_pieces (e ∷ []) few = refl
 few_pieces (e ∷ next ∷ es) few = absurd (omega (arith, few))
-
--- Up to `place` all are read: what is read, and what is to come, is all.
-abbrev pub AreRead : List MapElement → ℕ → List Region → Type 0
-AreRead elements place pieces = pieces ++ element_regions (drop (place - 1) elements) ≡ element_regions elements
-
-drop_here : (elements : List MapElement) (place : ℕ) (d : MapElement) → 1 ≤ place → place - 1 < length elements →
-    drop (place - 1) elements ≡ get_or elements (place - 1) d ∷ drop place elements
-drop_here elements place d some inside =
-    let next : suc (place - 1) ≡ place = omega (arith, some) in
-    drop-cons elements (place - 1) d inside ∙ ap (λ i. get_or elements (place - 1) d ∷ drop i elements) next
-
-pub read_more : (elements : List MapElement) (place : ℕ) (e next : MapElement) (pieces : List Region) → 1 ≤ place →
-    place < length elements → e ≡ get_or elements (place - 1) e → next ≡ get_or elements place next → e.iuc ≢ codes.null →
-    AreRead elements place pieces → AreRead elements (place + 1) (pieces ++ piece_of e next ∷ [])
-read_more elements place e next pieces some inside is_e is_next other read =
-    let here : drop (place - 1) elements ≡ e ∷ drop place elements =
-    drop_here elements place e some (omega (arith, inside)) ∙ ap (λ x. x ∷ drop place elements) (sym is_e) in
-    let behind : drop place elements ≡ next ∷ drop (suc place) elements =
-    drop-cons elements place next inside ∙ ap (λ x. x ∷ drop (suc place) elements) (sym is_next) in
-    let told : element_regions (drop (place - 1) elements) ≡ piece_of e next ∷ element_regions (drop place elements) =
-    ap element_regions (here ∙ ap (λ es. e ∷ es) behind) ∙ one_piece e next (drop (suc place) elements) other
-    ∙ ap (λ es. piece_of e next ∷ element_regions es) (sym behind) in
-    let same : place + 1 - 1 ≡ place = omega arith in
-    append_assoc pieces (piece_of e next ∷ []) (element_regions (drop (place + 1 - 1) elements))
-    ∙ ap (λ i. pieces ++ piece_of e next ∷ element_regions (drop i elements)) same
-    ∙ ap (λ ps. pieces ++ ps) (sym told) ∙ read
-
-pub read_to_null : (elements : List MapElement) (place : ℕ) (e : MapElement) (pieces : List Region) → 1 ≤ place →
-    place < length elements → e ≡ get_or elements (place - 1) e → e.iuc ≡ codes.null → AreRead elements place pieces →
-    pieces ≡ element_regions elements
-read_to_null elements place e pieces some inside is_e null read =
-    let here : drop (place - 1) elements ≡ e ∷ drop place elements =
-    drop_here elements place e some (omega (arith, inside)) ∙ ap (λ x. x ∷ drop place elements) (sym is_e) in
-    sym (append-nil pieces)
-    ∙ ap (λ ps. pieces ++ ps) (sym (ap element_regions here ∙ null_piece e (drop place elements) null)) ∙ read
-
-pub read_all : (elements : List MapElement) (place : ℕ) (pieces : List Region) → length elements ≤ place →
-    AreRead elements place pieces → pieces ≡ element_regions elements
-read_all elements place pieces over read =
-    let few : length (drop (place - 1) elements) ≤ 1 = omega (arith, length-drop (place - 1) elements, over) in
-    sym (append-nil pieces) ∙ ap (λ ps. pieces ++ ps) (sym (few_pieces (drop (place - 1) elements) few)) ∙ read
 
 -- Elements whose offsets rise stand side by side.
 
@@ -95,7 +63,135 @@ elements_side_by_side m is =
     subst (λ es. AreSideBySide 0 (element_regions es)) (sym is.list.joined)
     (first_side is.list.before is.list.len is.list.after (subst StartsAtZero is.list.joined is.first) is.list.others is.list.rising)
 
--- so do those of a MAP that a file has, and those that it has not
-pub told_side_by_side : (m : Option RoundMap) → IfSome m (λ m. IsMapBody m.body) → AreSideBySide 0 (map_regions m)
-told_side_by_side None is = tt
-told_side_by_side (Some m) is = elements_side_by_side m.body is
+-- Reading on: what is read, and what is to come, is all, and stands side by side where all does.
+pub record AreRead (pieces : List Region) (end : ℕ) (rest all : List Region) : Type 0 where
+  pub read : pieces ++ rest ≡ all
+  pub side : (more : List Region) → AreSideBySide end more ↔ AreSideBySide 0 (pieces ++ more)
+
+pub read_nothing : (all : List Region) → AreRead [] 0 all all
+read_nothing all = record { read = refl; side = λ more. (λ side. side, λ side. side) }
+
+pub read_more : (pieces : List Region) (end : ℕ) (rest more all : List Region) (piece : Region) → rest ≡ piece ∷ more →
+    piece.start ≡ end → 0 < piece.slots → AreRead pieces end rest all →
+    AreRead (pieces ++ piece ∷ []) (end_of piece) more all
+read_more pieces end rest more all piece is starts some read = record {
+  read = append_assoc pieces (piece ∷ []) more ∙ ap (λ ps. pieces ++ ps) (sym is) ∙ read.read;
+  side = λ later. (
+    λ side. subst (AreSideBySide 0) (sym (append_assoc pieces (piece ∷ []) later))
+        ((read.side (piece ∷ later)).0 (starts, some, side)),
+    λ side. ((read.side (piece ∷ later)).1 (subst (AreSideBySide 0) (append_assoc pieces (piece ∷ []) later) side)).2,
+  );
+}
+
+pub read_side : (pieces : List Region) (end : ℕ) (rest all : List Region) → AreRead pieces end rest all →
+    AreSideBySide 0 pieces
+read_side pieces end rest all read = subst (AreSideBySide 0) (append-nil pieces) ((read.side []).0 tt)
+
+pub read_all : (pieces : List Region) (end : ℕ) (rest all : List Region) → (AreSideBySide end rest → rest ≡ []) →
+    AreRead pieces end rest all → AreSideBySide 0 all → pieces ≡ all
+read_all pieces end rest all none read side =
+    let over : rest ≡ [] = none ((read.side rest).1 (subst (AreSideBySide 0) (sym read.read) side)) in
+    sym (append-nil pieces) ∙ ap (λ ps. pieces ++ ps) (sym over) ∙ read.read
+
+-- Elements as bytes.
+
+-- none, of too few bytes,
+pub none_at : (bytes : List ℕ) → length bytes < 4 → elements_at bytes ≡ []
+unfolding elements_at
+none_at [] short = refl
+none_at (a ∷ []) short = refl
+none_at (a ∷ b ∷ []) short = refl
+none_at (a ∷ b ∷ c ∷ []) short = refl
+none_at (a ∷ b ∷ c ∷ d ∷ more) short = absurd (omega (arith, short))
+
+-- or the first, and those behind it
+abbrev pub first_word : List ℕ → ℕ
+first_word bytes = from_be_bytes w32 (get_or bytes 0 0 ∷ get_or bytes 1 0 ∷ get_or bytes 2 0 ∷ get_or bytes 3 0 ∷ [])
+
+pub one_at : (bytes : List ℕ) → 4 ≤ length bytes → elements_at bytes ≡ element_of (first_word bytes) ∷ elements_at (drop 4 bytes)
+unfolding elements_at
+one_at [] long = absurd (omega (arith, long))
+one_at (a ∷ []) long = absurd (omega (arith, long))
+one_at (a ∷ b ∷ []) long = absurd (omega (arith, long))
+one_at (a ∷ b ∷ c ∷ []) long = absurd (omega (arith, long))
+one_at (a ∷ b ∷ c ∷ d ∷ more) long = refl
+
+-- no region, of too few elements,
+pub none_of : (bytes : List ℕ) → length bytes < 8 → element_regions (elements_at bytes) ≡ []
+none_of bytes short = elim (cases_lt (length bytes) 4) [
+  | inl few ↦ ap element_regions (none_at bytes few) ∙ few_pieces [] (omega arith)
+  | inr one ↦ ap element_regions (one_at bytes one
+      ∙ ap (λ es. element_of (first_word bytes) ∷ es) (none_at (drop 4 bytes) (omega (arith, short, length-drop 4 bytes))))
+      ∙ few_pieces (element_of (first_word bytes) ∷ []) (omega arith)
+]
+
+-- or the first, if it isn't the Null
+module _ (bytes behind : List ℕ) (long : 4 ≤ length behind) (is : behind ≡ drop 4 bytes) where
+  two_at : elements_at bytes ≡ element_of (first_word bytes) ∷ element_of (first_word behind) ∷ elements_at (drop 4 behind)
+  two_at =
+      one_at bytes (omega (arith, long, ap length is, length-drop 4 bytes))
+      ∙ ap (λ es. element_of (first_word bytes) ∷ es) (ap (λ bs. elements_at bs) (sym is) ∙ one_at behind long)
+
+  abbrev first : Region
+  first = piece_of (element_of (first_word bytes)) (element_of (first_word behind))
+
+  pub first_of : (element_of (first_word bytes)).iuc ≢ codes.null →
+      element_regions (elements_at bytes) ≡ first ∷ element_regions (elements_at behind)
+  first_of other =
+      ap element_regions two_at
+      ∙ one_piece (element_of (first_word bytes)) (element_of (first_word behind)) (elements_at (drop 4 behind)) other
+      ∙ ap (λ es. first ∷ element_regions es) (sym (one_at behind long))
+
+  pub none_next : (from : ℕ) →
+      ((first.iuc ≢ codes.null) × (first.start ≡ from) × (0 < first.slots) → ⊥) →
+      AreSideBySide from (element_regions (elements_at bytes)) → element_regions (elements_at bytes) ≡ []
+  none_next from never side = elim (cases_eq (element_of (first_word bytes)).iuc codes.null) [
+    | inl null ↦ ap element_regions two_at
+        ∙ null_piece (element_of (first_word bytes)) (element_of (first_word behind) ∷ elements_at (drop 4 behind)) null
+    | inr other ↦
+        let stands = subst (AreSideBySide from) (first_of other) side in
+        absurd (never (other, stands.0, stands.1))
+  ]
+
+-- those of a body
+length_front : (m : MapBody) (count : ℕ) → IsMapBody m → length (front m.head count) ≡ 16
+unfolding front
+length_front m count is = omega (arith, is.head.four)
+
+elements_of_body : (m : MapBody) → IsMapBody m → elements_at (drop 16 (spelling m)) ≡ m.elements
+unfolding spelling
+elements_of_body m is =
+    ap (λ bytes. elements_at bytes)
+    (drop_at (front m.head (length m.elements)) (element_bytes m.elements) 16 (length_front m (length m.elements) is))
+    ∙ elements-of-element_bytes m.elements is.fields
+
+-- Records, one after another.
+
+-- bytes that begin with no record have no MAP,
+pub none_read : (bytes : List ℕ) → BeginsNoPiece bytes → (maps : List RoundMap) → IsMapsOf bytes maps →
+    IsMapsOf (drop 0 bytes) (drop 1 maps) × ([] ≡ map_regions (slice_get maps 0))
+unfolding maps_file
+none_read bytes none [] of = (of, refl)
+none_read bytes none (m ∷ maps) of =
+    absurd (none (record_of m) (file_of maps) (record_is_piece m of.each.0) of.spelled)
+
+-- and those that begin with one have its MAP first
+pub record_read : (bytes : List ℕ) (p : Piece) (behind : List ℕ) (pieces : List Region) (len : ℕ) → IsPiece p →
+    bytes ≡ record_bytes p ++ behind → len ≡ length bytes - length behind →
+    (AreSideBySide 0 (element_regions (elements_at (drop 16 p.body))) →
+    pieces ≡ element_regions (elements_at (drop 16 p.body))) → (maps : List RoundMap) → IsMapsOf bytes maps →
+    IsMapsOf (drop len bytes) (drop 1 maps) × (pieces ≡ map_regions (slice_get maps 0))
+unfolding maps_file
+record_read bytes p behind pieces len is spelled long told [] of =
+    absurd (omega (arith, ap length (sym spelled ∙ of.spelled), length_record p behind))
+record_read bytes p behind pieces len is spelled long told (m ∷ maps) of =
+    let one = records.one_piece p (record_of m) behind (file_of maps) is (record_is_piece m of.each.0) (sym spelled ∙ of.spelled) in
+    let rest : drop len bytes ≡ behind =
+    ap (drop len) spelled ∙ drop_at (record_bytes p) behind len
+    (omega (arith, long, ap length spelled, length-append (record_bytes p) behind)) in
+    let elements : elements_at (drop 16 p.body) ≡ m.body.elements =
+    ap (λ (q : Piece). elements_at (drop 16 q.body)) one.0 ∙ elements_of_body m.body of.each.0.body in (
+      subst (λ bs. IsMapsOf bs maps) (sym rest) (record { each = of.each.1; spelled = one.1 }),
+      told (subst (λ es. AreSideBySide 0 (element_regions es)) (sym elements)
+          (elements_side_by_side m.body of.each.0.body)) ∙ ap element_regions elements,
+    )

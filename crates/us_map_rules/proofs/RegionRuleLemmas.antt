@@ -1,113 +1,246 @@
--- The first place of a round at which a minislot isn't what it must be, and that of all rounds.
-use Rattle.std.proofs.Common.{◌≡◌, ℕ, zero, suc, ◌+◌, ◌*◌, ◌<◌, ◌≤◌, ◌==◌, ◌⊎◌, Bool, true, false, List, [], ◌∷◌, ◌++◌, length, map, get_or, Option, Some, None, slice_get, IsPermutation, refl, sym, ap, ◌∙◌, subst, arith, inl, inr}
-use Rattle.std.specs.Prelude.{filter, filter_map, nat_lt, not, ◌&&◌, ◌||◌, position}
-use Rattle.std.proofs.lemmas.Bool.{cases_Bool, cases_lt, eq-eqb, eqb-true, eqb-false, false≢true, le-ltb, lt-ltb, ltb-true, ltb-false, ne_eqb, and_parts}
-use Rattle.std.proofs.lemmas.Bool.Decides.{nat_tests}
-use Rattle.std.proofs.lemmas.Option.{slice_get-get_or}
+-- The rule of minislots is what it is by the numbers of MAPs, and so is its first breach.
+use Rattle.std.proofs.Common.{◌≡◌, ℕ, zero, suc, ◌+◌, ◌*◌, ◌%◌, ◌<◌, ◌==◌, ◌⊎◌, Bool, true, false, List, [], ◌∷◌, ◌++◌, length, map, get_or, Option, Some, None, slice_get, option_map, IsPermutation, append-nil, refl, sym, ap, ◌∙◌, subst, arith, inl, inr, mul-le-mul_right}
+use Rattle.std.specs.Prelude.{filter, filter_map, nat_lt, not, option_to_list, sum_by, ◌&&◌, ◌||◌}
+use Rattle.std.specs.List.{AllByRecursion}
+use Rattle.std.proofs.Math.Nat.{mod-lt}
+use Rattle.std.proofs.lemmas.Bool.{false≢true, cases_Bool, cases_eq, cases_lt, and_from, eq-eqb, eqb-false, eqb-true, le-ltb, lt-ltb, ltb-true, ne_eqb, or_left}
+use Rattle.std.proofs.lemmas.List.Elements.{filter_map-append}
+use Rattle.std.proofs.lemmas.List.Sorted.{IsPermutation-append_left}
+use Rattle.std.proofs.lemmas.Nat.{div-add-mod', div-mul-add, mod-mul-add}
 use Rattle.us_flows.specs.declared.channels.Channel.{Channel}
-use Rattle.us_flows.specs.Tables.{Tables, map_len}
+use Rattle.us_flows.specs.Tables.{Tables, channel_with, map_len}
 use Rattle.us_flows.specs.Lawful.{AreTables}
 use Rattle.us_requests.specs.Traces.{TraceAsks}
 use Rattle.us_output.specs.declared.rows.Grant.{Grant}
 use Rattle.us_output.specs.declared.rows.Row.{Row}
 use Rattle.us_output.specs.declared.rows.Row.TheVariants as rows
-use Rattle.us_lawful.specs.Runs.{Judged, run_in}
+use Rattle.us_lawful.specs.Runs.{Judged, Run, run_in}
 use Rattle.us_lawful.specs.declared.place.Place.{Place}
 use Rattle.us_lawful.specs.declared.judged.RoundMap.{RoundMap}
-use Rattle.us_lawful.specs.Regions.{Region, grant_regions, map_regions, minislot_holds, region_of, regions_hold, channel_holds, reserve_regions}
+use Rattle.us_lawful.specs.Regions.{Region, channel_holds, grant_regions, map_regions, minislot_holds, region_of, regions_hold, reserve_regions, told_regions}
+use Rattle.us_lawful.proofs.ItemLemmas.{moved_all}
 use Rattle.us_lawful.proofs.RegionLemmas.{moved_holds}
 use Rattle.us_lawful.proofs.SameLemmas.{Same, same_append, same_filter, same_map, same_moved}
-use Rattle.us_breaches.specs.Order.{goes_before, place_of, rank_goes_before, rank_of, rank_among}
+use Rattle.us_breaches.specs.Order.{goes_before, place_of, rank_goes_before, rank_of}
 use Rattle.us_breaches.specs.Breaches.{IsFirstBreach}
+use Rattle.us_map_rules.specs.declared.gathered.MapRegions.{MapRegions}
 use Rattle.us_map_rules.specs.declared.region_lines.PlacedRegion.{PlacedRegion}
-use Rattle.us_map_rules.specs.Minislots.{IsFirstFailing}
 use Rattle.us_map_rules.specs.RegionLines.{map_number, placed_line}
-use Rattle.us_map_rules.specs.RegionRule.{IsFirstOfRound, map_holds, placed_holds, table_place_holds}
-use Rattle.us_map_rules.proofs.TableLemmas.{none_is_zero, number_parts, place_found, place_here, place_inside}
+use Rattle.us_map_rules.specs.Gathered as told
+use Rattle.us_map_rules.specs.Gathered.{AreGathered, AreTold, IsFirstBefore, IsPlaceIn, IsStateOf, lines_of, map_holds}
+use Rattle.us_map_rules.proofs.TableLemmas.{below_number, found_channel, lacks, none_is_zero, number_parts, place_found, place_here, place_inside}
+use Rattle.us_map_rules.proofs.ToldLemmas.{one_told}
 
--- One MAP.
+-- Lines of MAPs of the run.
 
--- a minislot of the MAP of this number, with these lines of it
-abbrev pub map_test : Tables → List RoundMap → ℕ → Channel → List PlacedRegion → ℕ → ℕ → Bool
-map_test t maps round c lines number at =
-    minislot_holds c (map_len t c) (reserve_regions t round c ++ map (λ q. q.region) lines) (map_regions (slice_get maps number)) at
+-- a line is of one of these,
+pub placed_inside : (t : Tables) (rounds : ℕ) (line : Row) (q : PlacedRegion) → placed_line t rounds line ≡ Some q →
+    q.map < rounds * length t.channels
+placed_inside t rounds (rows.Granted g) q is = elim (cases_lt g.round rounds) [
+  | inl low ↦ by low (place_of t.channels g.channel) refl (rw (lt-ltb g.round rounds low) at is)
+  | inr over ↦
+      let never : None ≡ Some q = rw (le-ltb g.round rounds over) at is in
+      absurd (cc never)
+]
+  where
+    by : g.round < rounds → (o : Option ℕ) → place_of t.channels g.channel ≡ o →
+        option_map (λ place. record { map = map_number t g.round place; region = region_of g }) o ≡ Some q →
+        q.map < rounds * length t.channels
+    by low None none found = absurd (cc found)
+    by low (Some z) there found =
+        let number : map_number t g.round z ≡ q.map = cc in
+        subst (λ m. m < rounds * length t.channels) number
+        (below_number (length t.channels) g.round z rounds (place_inside t.channels g.channel z there) low)
+placed_inside t rounds (rows.Missed m) q is = absurd (cc is)
+placed_inside t rounds (rows.Final s) q is = absurd (cc is)
+placed_inside t rounds (rows.Activity a) q is = absurd (cc is)
+placed_inside t rounds (rows.Counts n) q is = absurd (cc is)
 
-abbrev lines_of : List PlacedRegion → ℕ → List PlacedRegion
-lines_of placed number = filter (λ q. q.map == number) placed
+with_inside : (t : Tables) (rounds : ℕ) (line : Row) (lines : List Row) (o : Option PlacedRegion) →
+    placed_line t rounds line ≡ o →
+    AllByRecursion (λ q. q.map < rounds * length t.channels) (filter_map (placed_line t rounds) lines) →
+    AllByRecursion (λ q. q.map < rounds * length t.channels) (filter_map (placed_line t rounds) (line ∷ lines))
+with_inside t rounds line lines None is all = rw is all
+with_inside t rounds line lines (Some q) is all = rw is (placed_inside t rounds line q is, all)
 
--- that is what holds at its places
-placed_there : (t : Tables) (maps : List RoundMap) (placed : List PlacedRegion) (p : Place) (y : ℕ) (d : Channel) →
-    place_of t.channels p.channel ≡ Some y →
-    placed_holds t maps placed p
-    ≡ map_test t maps p.round (get_or t.channels y d) (lines_of placed (map_number t p.round y)) (map_number t p.round y) p.third
-placed_there t maps placed p y d found =
-    ap (table_place_holds t maps placed p) found
-    ∙ ap (map_holds t maps placed p (map_number t p.round y))
-    (slice_get-get_or t.channels y d (place_found t.channels p.channel y d found).0)
+all_inside : (t : Tables) (rounds : ℕ) (lines : List Row) →
+    AllByRecursion (λ q. q.map < rounds * length t.channels) (filter_map (placed_line t rounds) lines)
+all_inside t rounds [] = tt
+all_inside t rounds (line ∷ lines) =
+    with_inside t rounds line lines (placed_line t rounds line) refl (all_inside t rounds lines)
 
-placed_nowhere : (t : Tables) (maps : List RoundMap) (placed : List PlacedRegion) (p : Place) →
-    place_of t.channels p.channel ≡ None → placed_holds t maps placed p ≡ true
-placed_nowhere t maps placed p none = ap (table_place_holds t maps placed p) none
+all_at : {X : Type 0} (P : X → Type 0) (xs : List X) (i : ℕ) (d : X) → i < length xs → AllByRecursion P xs →
+    P (get_or xs i d)
+all_at P [] i d inside all = absurd (omega (arith, inside))
+all_at P (x ∷ xs) zero d inside all = all.0
+all_at P (x ∷ xs) (suc i) d inside all = all_at P xs i d (omega (arith, inside)) all.1
 
--- One round.
+-- in whatever order they stand
+pub moved_inside : (t : Tables) (rounds : ℕ) (lines : List Row) (placed : List PlacedRegion) (i : ℕ) (d : PlacedRegion) →
+    IsPermutation (filter_map (placed_line t rounds) lines) placed → i < length placed →
+    (get_or placed i d).map < rounds * length t.channels
+moved_inside t rounds lines placed i d moved inside =
+    all_at (λ q. q.map < rounds * length t.channels) placed i d inside
+    (moved_all (λ q. q.map < rounds * length t.channels) (filter_map (placed_line t rounds) lines) placed moved
+    (all_inside t rounds lines))
 
--- in a round the test passes at all places of the first `y` channels
-abbrev pub HoldsBefore : Tables → List RoundMap → List PlacedRegion → ℕ → ℕ → Type 0
-HoldsBefore t maps placed round y =
-    (p : Place) → p.round ≡ round → (z : ℕ) → place_of t.channels p.channel ≡ Some z → z < y → placed_holds t maps placed p ≡ true
+-- Lines of one MAP.
 
--- what a MAP was looked at for
-pub record IsLookedAt (t : Tables) (maps : List RoundMap) (placed : List PlacedRegion) (round y : ℕ) (c : Channel)
-    (lines : List PlacedRegion) (number : ℕ) (answer : Option ℕ) : Type 0 where
-  pub inside : y < length t.channels
-  pub channel : c ≡ get_or t.channels y c
-  pub is_number : number ≡ map_number t round y
-  pub are_lines : lines ≡ filter (λ q. q.map == number) placed
-  pub is_answer : IsFirstFailing (map_test t maps round c lines number) answer
+module _ (t : Tables) (rounds round y : ℕ) (c : Channel) (inside : round < rounds) (here : place_of t.channels c.id ≡ Some y) where
+  is_of : Grant → Bool
+  is_of g = (g.round == round) && (g.channel == c.id)
 
--- from what the calls of a step say
-pub look : (t : Tables) (maps : List RoundMap) (placed lines : List PlacedRegion) (round told y number : ℕ) (c : Channel)
-    (channels : List Channel) (answer : Option ℕ) → channels ≡ t.channels → y < length channels →
-    c ≡ get_or channels y c → told ≡ round → number ≡ map_number t told y → lines ≡ filter (λ q. q.map == number) placed →
-    IsFirstFailing (map_test t maps round c lines number) answer → IsLookedAt t maps placed round y c lines number answer
-look t maps placed lines round told y number c channels answer same inside is is_round is_number are_lines first = record {
-  inside = subst (λ cs. y < length cs) same inside;
-  channel = is ∙ ap (λ cs. get_or cs y c) same;
-  is_number = is_number ∙ ap (λ r. map_number t r y) is_round;
-  are_lines = are_lines;
-  is_answer = first;
-}
+  abbrev pub number : ℕ
+  number = map_number t round y
 
--- the test at its places
-looked_at : (t : Tables) (maps : List RoundMap) (placed lines : List PlacedRegion) (round y number : ℕ) (c : Channel)
-    (answer : Option ℕ) (p : Place) → IsLookedAt t maps placed round y c lines number answer → p.round ≡ round →
-    place_of t.channels p.channel ≡ Some y → placed_holds t maps placed p ≡ map_test t maps round c lines number p.third
-looked_at t maps placed lines round y number c answer p looked same found =
-    placed_there t maps placed p y c found
-    ∙ ap (λ n. map_test t maps n (get_or t.channels y c) (lines_of placed (map_number t n y)) (map_number t n y) p.third) same
-    ∙ ap (λ n. map_test t maps round (get_or t.channels y c) (lines_of placed n) n p.third) (sym looked.is_number)
-    ∙ ap (λ ls. map_test t maps round (get_or t.channels y c) ls number p.third) (sym looked.are_lines)
-    ∙ ap (λ c. map_test t maps round c lines number p.third) (sym looked.channel)
+  -- a line is of the MAP and is placed there, or neither
+  abbrev IsPlaced : Grant → Option PlacedRegion → Type 0
+  IsPlaced g None = is_of g ≡ false
+  IsPlaced g (Some q) = ((q.map == number) ≡ is_of g) × (q.region ≡ region_of g)
 
-pub holds_more : (t : Tables) (maps : List RoundMap) (placed lines : List PlacedRegion) (round y number : ℕ) (c : Channel) →
-    IsLookedAt t maps placed round y c lines number None → HoldsBefore t maps placed round y →
-    HoldsBefore t maps placed round (y + 1)
-holds_more t maps placed lines round y number c looked before p same z found less = elim (cases_lt z y) [
-  | inl early ↦ before p same z found early
-  | inr here ↦
-      let is : z ≡ y = omega (arith, less, here) in
-      looked_at t maps placed lines round y number c None p looked same (found ∙ ap (λ i. Some i) is)
-      ∙ looked.is_answer p.third
+  other : (g : Grant) → ((g.round ≡ round) × (g.channel ≡ c.id) → ⊥) → is_of g ≡ false
+  unfolding is_of
+  other g never = elim (cases_eq g.round round) [
+    | inl same ↦ elim (cases_eq g.channel c.id) [
+      | inl there ↦ absurd (never (same, there))
+      | inr away ↦ rw (eq-eqb g.round round same, ne_eqb g.channel c.id away) refl
+    ]
+    | inr apart ↦ rw (ne_eqb g.round round apart) refl
+  ]
+
+  of_table : (g : Grant) (place : Option ℕ) → place_of t.channels g.channel ≡ place →
+      IsPlaced g (option_map (λ place. record { map = map_number t g.round place; region = region_of g }) place)
+  unfolding is_of
+  of_table g None none = other g (λ is.
+      let never : None ≡ Some y = sym none ∙ ap (place_of t.channels) is.1 ∙ here in absurd (cc never))
+  of_table g (Some z) found = (
+    elim (cases_Bool (map_number t g.round z == map_number t round y)) [
+      | inl same ↦
+          let parts = number_parts (length t.channels) g.round z round y (place_inside t.channels g.channel z found)
+          (place_inside t.channels c.id y here) (eqb-true (map_number t g.round z) (map_number t round y) same) in
+          let channel : g.channel ≡ c.id =
+          sym (place_found t.channels g.channel z c found).1 ∙ ap (λ i. (get_or t.channels i c).id) parts.1
+          ∙ (place_found t.channels c.id y c here).1 in
+          same ∙ sym (and_from (g.round == round) (g.channel == c.id) (eq-eqb g.round round parts.0) (eq-eqb g.channel c.id channel))
+      | inr apart ↦
+          let never : (g.round ≡ round) × (g.channel ≡ c.id) → ⊥ = (λ is.
+          let place : Some z ≡ Some y = sym found ∙ ap (place_of t.channels) is.1 ∙ here in
+          let at : z ≡ y = cc in
+          eqb-false (map_number t g.round z) (map_number t round y) apart
+          (ap (λ r. map_number t r z) is.0 ∙ ap (map_number t round) at)) in
+          apart ∙ sym (other g never)
+    ],
+    refl,
+  )
+
+  one_line : (g : Grant) → IsPlaced g (placed_line t rounds (rows.Granted g))
+  unfolding is_of
+  one_line g = elim (cases_lt g.round rounds) [
+    | inl low ↦ rw (lt-ltb g.round rounds low) (of_table g (place_of t.channels g.channel) refl)
+    | inr over ↦ rw (le-ltb g.round rounds over) (other g (λ is. omega (arith, over, is.0, inside)))
+  ]
+
+  -- the minislots of lines of this MAP
+  abbrev pub of_lines : List Row → List Region
+  of_lines lines = lines_of number (filter_map (placed_line t rounds) lines)
+
+  with_line : (g : Grant) (lines : List Row) (q : Option PlacedRegion) → placed_line t rounds (rows.Granted g) ≡ q → IsPlaced g q →
+      grant_regions round c.id lines ≡ of_lines lines →
+      grant_regions round c.id (rows.Granted g ∷ lines) ≡ of_lines (rows.Granted g ∷ lines)
+  unfolding is_of
+  with_line g lines None is placed rest = rw (placed, is) rest
+  with_line g lines (Some q) is placed rest = elim (cases_Bool (is_of g)) [
+    | inl of ↦ rw (of, is) (rw (placed.0 ∙ of)
+        (ap (λ r. r ∷ grant_regions round c.id lines) (sym placed.1) ∙ ap (λ rs. q.region ∷ rs) rest))
+    | inr away ↦ rw (away, is) (rw (placed.0 ∙ away) rest)
+  ]
+
+  pub grants_told : (lines : List Row) → grant_regions round c.id lines ≡ of_lines lines
+  grants_told [] = refl
+  grants_told (rows.Granted g ∷ lines) =
+      with_line g lines (placed_line t rounds (rows.Granted g)) refl (one_line g) (grants_told lines)
+  grants_told (rows.Missed m ∷ lines) = grants_told lines
+  grants_told (rows.Final s ∷ lines) = grants_told lines
+  grants_told (rows.Activity a ∷ lines) = grants_told lines
+  grants_told (rows.Counts n ∷ lines) = grants_told lines
+
+-- Places.
+
+-- of the regions that must be in a MAP
+regions_told : (t : Tables) (rounds round y : ℕ) (c : Channel) (lines : List Row) (placed : List PlacedRegion) →
+    round < rounds → place_of t.channels c.id ≡ Some y →
+    IsPermutation (filter_map (placed_line t rounds) lines) placed →
+    Same (reserve_regions t round c ++ grant_regions round c.id lines)
+    (reserve_regions t round c ++ lines_of (map_number t round y) placed)
+regions_told t rounds round y c lines placed inside here moved =
+    let all : List PlacedRegion = filter_map (placed_line t rounds) lines in
+    let passes : PlacedRegion → Bool = λ q. q.map == map_number t round y in
+    same_append (reserve_regions t round c) (reserve_regions t round c) (grant_regions round c.id lines)
+    (map (λ q. q.region) (filter passes placed)) (λ f. refl)
+    (λ f. ap (sum_by f) (grants_told t rounds round y c inside here lines)
+    ∙ same_map (λ q. q.region) (filter passes all) (filter passes placed)
+    (same_filter passes all placed (same_moved all placed moved)) f)
+
+-- By the number of a MAP.
+
+module _ (t : Tables) (v : TraceAsks) (judged : Judged) (placed : List PlacedRegion)
+    (moved : IsPermutation (filter_map (placed_line t v.rounds) judged.lines) placed) (p : Place) where
+  of_channel : p.round < v.rounds → (o : Option Channel) → channel_with t.channels p.channel ≡ o →
+      regions_hold (run_in t v) judged p ≡ channel_holds (run_in t v) judged p o
+  of_channel inside o found =
+      ap (λ b. not b || channel_holds (run_in t v) judged p (channel_with t.channels p.channel)) (lt-ltb p.round v.rounds inside)
+      ∙ ap (channel_holds (run_in t v) judged p) found
+
+  in_map : (y : ℕ) → p.round < v.rounds → place_of t.channels p.channel ≡ Some y →
+      regions_hold (run_in t v) judged p ≡ map_holds t judged.maps placed (map_number t p.round y) p.third
+  in_map y inside at =
+      let here = found_channel t.channels p.channel y at in
+      let c : Channel = here.0 in
+      let k : ℕ = length t.channels in
+      let low : y < k = place_inside t.channels p.channel y at in
+      let number : ℕ = map_number t p.round y in
+      let lines : List Region = lines_of number placed in
+      let pieces : List Region = map_regions (slice_get judged.maps number) in
+      of_channel inside (Some c) here.1.found
+      ∙ ap (λ place. minislot_holds c (map_len t c) (reserve_regions t p.round c ++ grant_regions p.round c.id judged.lines)
+      (told_regions (run_in t v) judged p.round place) p.third) at
+      ∙ moved_holds c (map_len t c) (reserve_regions t p.round c ++ grant_regions p.round c.id judged.lines)
+      (reserve_regions t p.round c ++ lines) pieces p.third
+      (regions_told t v.rounds p.round y c judged.lines placed inside (ap (place_of t.channels) here.1.id_is ∙ at) moved)
+      ∙ sym (ap (λ o. told.channel_holds t number lines pieces o p.third)
+      (ap (slice_get t.channels) (mod-mul-add p.round k y low) ∙ here.1.there)
+      ∙ ap (λ r. minislot_holds c (map_len t c) (reserve_regions t r c ++ lines) pieces p.third) (div-mul-add p.round k y low))
+
+  -- a place that the run lacks, and one that it has
+  abbrev IsDecided : Type 0
+  IsDecided = (regions_hold (run_in t v) judged p ≡ true)
+      ⊎ ((p.round < v.rounds) × (y : ℕ) × (place_of t.channels p.channel ≡ Some y))
+
+  decided : IsDecided
+  decided = elim (cases_lt p.round v.rounds) [
+    | inl inside ↦ by inside (place_of t.channels p.channel) refl
+    | inr past ↦ inl (or_left (not (nat_lt p.round v.rounds))
+        (channel_holds (run_in t v) judged p (channel_with t.channels p.channel)) (ap not (le-ltb p.round v.rounds past)))
+  ]
+    where
+      by : p.round < v.rounds → (o : Option ℕ) → place_of t.channels p.channel ≡ o → IsDecided
+      by inside None none = inl (of_channel inside None (lacks t.channels p.channel none))
+      by inside (Some y) at = inr (inside, y, at)
+
+pub all_hold : (t : Tables) (v : TraceAsks) (judged : Judged) (placed : List PlacedRegion) →
+    IsPermutation (filter_map (placed_line t v.rounds) judged.lines) placed →
+    IsFirstBefore (map_holds t judged.maps placed) (v.rounds * length t.channels) None →
+    (p : Place) → regions_hold (run_in t v) judged p ≡ true
+all_hold t v judged placed moved none p = elim (decided t v judged placed moved p) [
+  | inl holds ↦ holds
+  | inr of ↦
+      let k : ℕ = length t.channels in
+      in_map t v judged placed moved p of.1 of.0 of.2
+      ∙ none (map_number t p.round of.1)
+      (below_number k p.round of.1 v.rounds (place_inside t.channels p.channel of.1 of.2) of.0) p.third
 ]
 
-pub all_hold : (t : Tables) (maps : List RoundMap) (placed : List PlacedRegion) (round y : ℕ) →
-    length t.channels ≤ y → HoldsBefore t maps placed round y →
-    IsFirstOfRound t.channels (placed_holds t maps placed) round None
-all_hold t maps placed round y over before p same = by (place_of t.channels p.channel) refl
-  where
-    by : (o : Option ℕ) → place_of t.channels p.channel ≡ o → placed_holds t maps placed p ≡ true
-    by None none = placed_nowhere t maps placed p none
-    by (Some z) found = before p same z found (omega (arith, place_inside t.channels p.channel z found, over))
+-- The first place.
 
 -- of places of a round, before one stand those of its channel with a lesser third number, and those of channels before it
 abbrev IsEarlier : List Channel → Place → Place → ℕ → Type 0
@@ -146,26 +279,139 @@ module _ (channels : List Channel) (none : place_of channels 0 ≡ None) (p firs
     | inr other ↦ by_rank (place_of channels p.channel) refl (rw (eq-eqb p.round first.round same, other) at before)
   ]
 
--- the first minislot of a MAP, told as a place
-pub first_here : (t : Tables) (maps : List RoundMap) (placed lines : List PlacedRegion) (round y number third : ℕ) (c : Channel)
-    (first : Place) → AreTables t → IsLookedAt t maps placed round y c lines number (Some third) →
-    HoldsBefore t maps placed round y → first.round ≡ round → first.channel ≡ c.id → first.third ≡ third →
-    IsFirstOfRound t.channels (placed_holds t maps placed) round (Some first)
-first_here t maps placed lines round y number third c first lawful looked before is_round is_channel is_third =
-    let found : place_of t.channels first.channel ≡ Some y =
-    ap (place_of t.channels) is_channel ∙ subst (λ x. place_of t.channels x.id ≡ Some y) (sym looked.channel)
-    (place_here t.channels lawful.channels_apart y c looked.inside) in
-    let there : (p : Place) → p.round ≡ round → place_of t.channels p.channel ≡ Some y →
-    placed_holds t maps placed p ≡ map_test t maps round c lines number p.third =
-    (λ p same at. looked_at t maps placed lines round y number c (Some third) p looked same at) in (
-      is_round,
-      there first is_round found ∙ ap (map_test t maps round c lines number) is_third ∙ looked.is_answer.0,
-      λ p same goes. elim (earlier_places t.channels (none_is_zero t t.channels lawful.channels) p first y found
-          (same ∙ sym is_round) goes) [
-            | inl here ↦ there p same here.0 ∙ looked.is_answer.1 p.third (omega (arith, here.1, is_third))
-            | inr others ↦ elim others [
-              | inl none ↦ placed_nowhere t maps placed p none
-              | inr earlier ↦ before p same earlier.0 earlier.1 earlier.2
-            ]
-          ],
-    )
+earlier_round : (channels : List Channel) (p first : Place) → (p.round ≡ first.round → ⊥) → goes_before channels p first ≡ true →
+    p.round < first.round
+earlier_round channels p first other before =
+    ltb-true p.round first.round (rw (ne_eqb p.round first.round other) at before)
+
+module _ (t : Tables) (v : TraceAsks) (judged : Judged) (placed : List PlacedRegion)
+    (moved : IsPermutation (filter_map (placed_line t v.rounds) judged.lines) placed) (lawful : AreTables t) (d : Channel)
+    (n at : ℕ) (place : Place) (of : IsPlaceIn t.channels n at place)
+    (first : IsFirstBefore (map_holds t judged.maps placed) (v.rounds * length t.channels) (Some (n, at))) where
+  abbrev k : ℕ
+  k = length t.channels
+
+  low : n % k < k
+  low = mod-lt n lawful.some_channels.0
+
+  found : place_of t.channels place.channel ≡ Some (n % k)
+  found = ap (place_of t.channels) (of.channel d) ∙ place_here t.channels lawful.channels_apart (n % k) d low
+
+  number_is : place.round * k + n % k ≡ n
+  number_is = ap (λ r. r * k + n % k) of.round ∙ div-add-mod' n k
+
+  inside : place.round < v.rounds
+  inside = elim (cases_lt place.round v.rounds) [
+    | inl less ↦ less
+    | inr past ↦ absurd (omega (arith, mul-le-mul_right k past, number_is, first.0))
+  ]
+
+  before : (p : Place) (z : ℕ) → place_of t.channels p.channel ≡ Some z → goes_before t.channels p place ≡ true →
+      map_holds t judged.maps placed (map_number t p.round z) p.third ≡ true
+  before p z there goes = elim (cases_eq p.round place.round) [
+    | inl same ↦ elim (earlier_places t.channels (none_is_zero t t.channels lawful.channels) p place (n % k) found same goes) [
+      | inl here ↦
+          let place_is : Some z ≡ Some (n % k) = sym there ∙ here.0 in
+          let z_is : z ≡ n % k = cc in
+          let is : map_number t p.round z ≡ n = ap (λ r. r * k + z) same ∙ ap (λ y. place.round * k + y) z_is ∙ number_is in
+          ap (λ m. map_holds t judged.maps placed m p.third) is ∙ first.1.1 p.third (omega (arith, here.1, of.third_is))
+      | inr others ↦ elim others [
+        | inl none ↦
+            let never : Some z ≡ None = sym there ∙ none in
+            absurd (cc never)
+        | inr earlier ↦
+            let place_is : Some z ≡ Some earlier.0 = sym there ∙ earlier.1 in
+            let z_is : z ≡ earlier.0 = cc in
+            first.2 (map_number t p.round z)
+            (omega (arith, number_is, ap (λ r. r * k) same, z_is, earlier.2)) p.third
+      ]
+    ]
+    | inr other ↦ first.2 (map_number t p.round z)
+        (omega (
+          arith,
+          number_is,
+          below_number k p.round z place.round (place_inside t.channels p.channel z there)
+              (earlier_round t.channels p place other goes),
+        )) p.third
+  ]
+
+  pub first_holds : IsFirstBreach t.channels (λ p. regions_hold (run_in t v) judged p ≡ true) (Some place)
+  first_holds = (
+    λ holds. false≢true (
+        sym (in_map t v judged placed moved place (n % k) inside found
+        ∙ ap (λ m. map_holds t judged.maps placed m place.third) number_is
+        ∙ ap (map_holds t judged.maps placed n) of.third_is ∙ first.1.0)
+        ∙ holds),
+    λ p goes. elim (decided t v judged placed moved p) [
+      | inl holds ↦ holds
+      | inr has ↦ in_map t v judged placed moved p has.1 has.0 has.2 ∙ before p has.1 has.2 goes
+    ],
+  )
+
+-- What is answered where all MAPs are judged.
+
+one_of : (channels : List Channel) → 0 < length channels → Channel
+one_of [] some = absurd (omega (arith, some))
+one_of (c ∷ channels) some = c
+
+module _ (t : Tables) (v : TraceAsks) (judged : Judged) (bytes : List ℕ) (placed : List PlacedRegion) (number count at : ℕ)
+    (regions : List Region) (first : Option (ℕ × ℕ))
+    (moved : IsPermutation (filter_map (placed_line t v.rounds) judged.lines) placed)
+    (told : AreGathered t v.rounds bytes judged.maps placed number at regions first)
+    (all : count ≡ v.rounds * length t.channels) (last : number ≡ count) where
+  judged_all : (answer : Option (ℕ × ℕ)) → first ≡ answer →
+      IsFirstBefore (map_holds t judged.maps placed) (v.rounds * length t.channels) answer
+  judged_all answer is =
+      subst (λ n. IsFirstBefore (map_holds t judged.maps placed) n answer) (last ∙ all)
+      (subst (IsFirstBefore (map_holds t judged.maps placed) number) is told.judged)
+
+  pub all_told : first ≡ None → (p : Place) → regions_hold (run_in t v) judged p ≡ true
+  all_told none = all_hold t v judged placed moved (judged_all None none)
+
+  pub first_told : (n third : ℕ) (place : Place) → AreTables t → first ≡ Some (n, third) → IsPlaceIn t.channels n third place →
+      IsFirstBreach t.channels (λ p. regions_hold (run_in t v) judged p ≡ true) (Some place)
+  first_told n third place lawful is of =
+      first_holds t v judged placed moved lawful (one_of t.channels lawful.some_channels.0) n third place of
+      (judged_all (Some (n, third)) is)
+
+-- Lines, one after another.
+
+line_behind : (run : Run) (lines : List Row) (line : Row) (placed : List PlacedRegion) (o : Option PlacedRegion) →
+    placed_line run.tables run.rounds line ≡ o →
+    IsPermutation (filter_map (placed_line run.tables run.rounds) lines) placed →
+    IsPermutation (filter_map (placed_line run.tables run.rounds) (lines ++ line ∷ [])) (placed ++ option_to_list o)
+line_behind run lines line placed o is moved =
+    let f : Row → Option PlacedRegion = placed_line run.tables run.rounds in
+    subst (λ ps. IsPermutation ps (placed ++ option_to_list o))
+    (sym (filter_map-append f lines (line ∷ []) ∙ ap (λ ps. filter_map f lines ++ ps) (one_told f line o is)))
+    (IsPermutation-append_left (option_to_list o) (filter_map f lines) placed moved)
+
+pub told_aside : (run : Run) (bytes : List ℕ) (maps : List RoundMap) (lines : List Row) (line : Row) (s : MapRegions) →
+    placed_line run.tables run.rounds line ≡ None → AreTold run bytes maps lines s →
+    AreTold run bytes maps (lines ++ line ∷ []) s
+told_aside run bytes maps lines line s none told = record {
+  placed = told.placed;
+  moved = subst (IsPermutation (filter_map (placed_line run.tables run.rounds) (lines ++ line ∷ []))) (append-nil told.placed)
+      (line_behind run lines line told.placed None none told.moved);
+  state = told.state;
+}
+
+pub told_more : (run : Run) (bytes : List ℕ) (maps : List RoundMap) (lines : List Row) (line : Row) (q : PlacedRegion)
+    (s u : MapRegions) → placed_line run.tables run.rounds line ≡ Some q →
+    ((placed : List PlacedRegion) → q.map < run.rounds * length run.tables.channels →
+    IsStateOf run.tables run.rounds bytes maps placed s → IsStateOf run.tables run.rounds bytes maps (placed ++ q ∷ []) u) →
+    AreTold run bytes maps lines s → AreTold run bytes maps (lines ++ line ∷ []) u
+told_more run bytes maps lines line q s u is step told = record {
+  placed = told.placed ++ q ∷ [];
+  moved = line_behind run lines line told.placed (Some q) is told.moved;
+  state = step told.placed (placed_inside run.tables run.rounds line q is) told.state;
+}
+
+-- What the calls of a step say.
+
+pub moved_lines : (t : Tables) (rounds told : ℕ) (lines : List Row) (placed lent : List PlacedRegion) → told ≡ rounds →
+    lent ≡ placed → IsPermutation (filter_map (placed_line t told) lines) placed →
+    IsPermutation (filter_map (placed_line t rounds) lines) lent
+moved_lines t rounds told lines placed lent same_rounds same_placed moved =
+    subst (λ r. IsPermutation (filter_map (placed_line t r) lines) lent) same_rounds
+    (subst (IsPermutation (filter_map (placed_line t told) lines)) (sym same_placed) moved)

@@ -1,8 +1,7 @@
 -- Channels of a table by their ids, and the numbers of MAPs.
-use Rattle.std.proofs.Common.{◌≡◌, ◌≢◌, ℕ, zero, suc, ◌+◌, ◌*◌, ◌<◌, ◌≤◌, ◌==◌, Bool, true, false, List, [], ◌∷◌, length, map, get_or, Option, Some, None, slice_get, refl, sym, ap, ◌∙◌, subst, suc-mul, mul-le-mul_right, arith, inl, inr}
-use Rattle.std.specs.Prelude.{position, nat_lt}
+use Rattle.std.proofs.Common.{◌≡◌, ◌≢◌, ℕ, zero, suc, ◌+◌, ◌*◌, ◌<◌, ◌≤◌, ◌==◌, List, [], ◌∷◌, length, map, get_or, Option, Some, None, slice_get, refl, ap, ◌∙◌, subst, suc-mul, mul-le-mul_right, arith, inl, inr}
 use Rattle.std.specs.List.{AllByRecursion, position_or_len}
-use Rattle.std.proofs.lemmas.Bool.{cases_Bool, cases_eq, cases_lt, cases_order, eq-eqb, eqb-true, le-ltb, lt-ltb, ne_eqb}
+use Rattle.std.proofs.lemmas.Bool.{cases_lt, cases_order, eq-eqb, eqb-true, le-ltb, lt-ltb, ne_eqb}
 use Rattle.std.proofs.lemmas.List.Folds.{find_at}
 use Rattle.std.proofs.lemmas.List.Quantifiers.{position-Some}
 use Rattle.std.proofs.lemmas.List.Sums.{position_or_len_is}
@@ -111,7 +110,8 @@ none_is_zero t (c ∷ more) lawful = by (place_of (c ∷ more) 0) refl
 
 -- Numbers of MAPs.
 
-below_number : (n a x b : ℕ) → x < n → a < b → a * n + x < b * n
+-- a MAP of an earlier round has a lesser number
+pub below_number : (n a x b : ℕ) → x < n → a < b → a * n + x < b * n
 below_number n a x b inside less =
     let more : suc a * n ≤ b * n = mul-le-mul_right n (omega (arith, less)) in
     omega (arith, suc-mul a n, more, inside)

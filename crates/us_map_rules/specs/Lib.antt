@@ -4,6 +4,8 @@
 
 -- the MAPs of a maps file
 pub mod MapsReading
+-- what they say of themselves
+pub mod Headings
 -- the rounds and channels of lines
 pub mod LackedPlaces
 -- the first minislot of a MAP that isn't what it must be
@@ -13,7 +15,7 @@ pub mod Pieces
 pub mod RegionLines
 -- what must be in a MAP
 pub mod MapRegions
--- the first place of all
-pub mod RegionRule
+-- the rule, told one line after another
+pub mod Gathered
 -- maps files at small inputs
 pub mod Examples

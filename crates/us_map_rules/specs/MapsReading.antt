@@ -1,12 +1,16 @@
 -- P1, of MAPs: which bytes are the maps file of MAPs, and which record is the first that is none.
-use Rattle.std.specs.Prelude.{◌≡◌, ◌≢◌, ℕ, ◌<◌, List, ◌++◌, length, map, codes, Result, Ok, Err}
+use Rattle.std.specs.Prelude.{◌≡◌, ◌≢◌, ℕ, ◌<◌, List, ◌++◌, length, map, codes, Option, Result, Ok, Err}
 use Rattle.std.specs.Fmt.{decimal}
-use Rattle.std.specs.Global.{Vec}
 use Rattle.std.specs.List.{AllByRecursion}
 use Rattle.us_codec.specs.MapsFiles.{Piece, IsPiece, record_bytes, maps_file}
+use Rattle.us_output.specs.declared.rows.Row.{Row}
 use Rattle.us_lawful.specs.declared.judged.RoundMap.{RoundMap}
+use Rattle.us_lawful.specs.declared.place.Place.{Place}
+use Rattle.us_lawful.specs.Runs.{Run}
+use Rattle.us_lawful.specs.Headings.{HeadingsHold}
 use Rattle.us_lawful.specs.Lawful.{IsRoundMap}
 use Rattle.us_lawful.specs.Texts.{record_of}
+use Rattle.us_breaches.specs.Breaches.{IsFirstBreach}
 use Rattle.us_map_rules.specs.declared.maps_faults.MapsFault.{MapsFault}
 use Rattle.us_map_rules.specs.declared.maps_faults.MapsFault.TheVariants as fault
 
@@ -30,13 +34,16 @@ pub record IsFirstBadRecord (bytes : List ℕ) (number : ℕ) : Type 0 where
   pub some : 0 < length rest
   pub bad : BeginsNoRecord rest
 
--- what is answered of the bytes of a maps file; of want of memory this says nothing
-abbrev pub Answers : List ℕ → Result (Vec RoundMap) MapsFault → Type 0
-Answers bytes (Ok maps) = IsMapsOf bytes maps.items
-Answers bytes (Err (fault.Record number)) = IsFirstBadRecord bytes number
-Answers bytes (Err fault.NoMemory) = Unit {0}
+-- what is answered of the bytes of a maps file: the first of its MAPs that isn't that of the run, or else the first record that
+-- is of no MAP; of want of memory this says nothing
+abbrev pub Answers : Run → List ℕ → Result (Option Place) MapsFault → Type 0
+Answers run bytes (Ok first) =
+    (maps : List RoundMap) × IsMapsOf bytes maps
+    × ((lines : List Row) → IsFirstBreach run.tables.channels (HeadingsHold run (record { maps = maps; lines = lines })) first)
+Answers run bytes (Err (fault.Record number)) = IsFirstBadRecord bytes number
+Answers run bytes (Err fault.NoMemory) = Unit {0}
 
--- the same of MAPs, or of the number of a record
+-- what bytes are read as: MAPs, or the number of a record
 abbrev pub IsReading : List ℕ → Result (List RoundMap) ℕ → Type 0
 IsReading bytes (Ok maps) = IsMapsOf bytes maps
 IsReading bytes (Err number) = IsFirstBadRecord bytes number

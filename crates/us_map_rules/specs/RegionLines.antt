@@ -1,5 +1,5 @@
 -- The minislots of G lines by the MAP that they are for.
-use Rattle.std.specs.Prelude.{ℕ, ◌+◌, ◌*◌, ◌<◌, ◌≤◌, ◌==◌, nat_lt, if◌then◌else◌, List, length, slice_index_or, position, Option, None, option_map}
+use Rattle.std.specs.Prelude.{ℕ, ◌+◌, ◌*◌, ◌==◌, nat_le, nat_lt, if◌then◌else◌, Bool, true, length, position, Option, Some, None, option_map}
 use Rattle.us_flows.specs.Tables.{Tables}
 use Rattle.us_output.specs.declared.rows.Grant.{Grant}
 use Rattle.us_output.specs.declared.rows.Row.{Row}
@@ -22,8 +22,10 @@ abbrev pub placed_line : Tables → ℕ → Row → Option PlacedRegion
 placed_line t rounds (rows.Granted g) = if nat_lt g.round rounds then placed_grant t g else None
 placed_line t rounds _ = None
 
--- lines by the number of their MAP are cut at a place: before it stand those of MAPs before this one, and behind it others
-pub record IsCut (placed : List PlacedRegion) (number at : ℕ) : Type 0 where
-  pub within : at ≤ length placed
-  pub before : (k : ℕ) (d : PlacedRegion) → k < at → (slice_index_or placed k d).map < number
-  pub behind : (k : ℕ) (d : PlacedRegion) → at ≤ k → k < length placed → number ≤ (slice_index_or placed k d).map
+-- a line is of the MAP of this number or of one behind it, or of none
+abbrev pub is_behind : ℕ → Option PlacedRegion → Bool
+is_behind number None = true
+is_behind number (Some q) = nat_le number q.map
+
+abbrev pub comes_next : Tables → ℕ → ℕ → Row → Bool
+comes_next t rounds number line = is_behind number (placed_line t rounds line)

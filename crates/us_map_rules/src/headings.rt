@@ -4,30 +4,68 @@ ghost use Rattle.us_flows.specs.Lawful.{IsChannel};
 ghost use Rattle.us_channel.specs.Maps;
 ghost use Rattle.us_lawful.specs.Runs.{run_in};
 ghost use Rattle.us_lawful.specs.Headings as rule;
-ghost use Rattle.us_breaches.specs.Breaches.{IsFirstBreach};
+ghost use Rattle.us_map_rules.specs.MapsReading.{Answers};
+ghost use Rattle.us_map_rules.specs.Headings.{IsOtherWith};
 
+use crate::maps_faults::MapsFault;
+use crate::maps_reading::first_map;
+use std::alloc::Global;
 use us_codec::{Element, Head};
 use us_flows::{Channel, Config};
-use us_lawful::{Judged, Place, RoundMap};
+use us_lawful::{Place, RoundMap};
 use us_requests::Trace;
 use us_slots::Iuc;
 
-/// The first MAP that doesn't say of itself what the MAP of its number in the run must say, that is missing, or that is one
-/// too many. Its number, from 0, is the third number of the place.
-pub fn headings_breach(config: &Config, trace: &Trace, judged: &Judged) -> Option<Place>
+/// The first MAP of a maps file that doesn't say of itself what the MAP of its number in the run must say, that is missing, or
+/// that is one too many. Its number, from 0, is the third number of the place. The error is the first record that is none:
+/// one that is cut, or whose body isn't in the grammar. All records are looked at before any MAP is answered.
+pub fn headings_breach(
+    alloc: Global,
+    config: &Config,
+    trace: &Trace,
+    file: &[u8],
+) -> Result<Option<Place>, MapsFault>
     requires { rounds_fit config.now trace.now.rounds ≡ true }
-    ensures { IsFirstBreach config.now.channels (rule.HeadingsHold (run_in config.now trace.now) judged.now) result }
+    ensures { Answers (run_in config.now trace.now) file.now result }
 {
-    let maps = judged.maps();
-    for (number, map) in maps.iter().enumerate() {
-        if !is_map_of_run(config, trace, number, map) {
-            return Some(place_of(number));
-        }
+    let mut number = 0;
+    let mut other = None;
+    let mut rest = file;
+    while !rest.is_empty() {
+        let Some((map, behind)) = first_map(alloc, rest)? else {
+            return Err(MapsFault::Record(number as u64));
+        };
+        other = other_with(other, config, trace, number, &map);
+        number += 1;
+        rest = behind;
     }
-    if maps.len() < trace.rounds() as usize * config.channels().len() {
-        Some(place_of(maps.len()))
-    } else {
+    if let Some(other) = other {
+        return Ok(Some(place_of(other)));
+    }
+    if number < trace.rounds() as usize * config.channels().len() {
+        return Ok(Some(place_of(number)));
+    }
+    Ok(None)
+}
+
+/// The number of the first MAP that isn't that of the run: `other` of the MAPs before this one, or else that of this one.
+fn other_with(
+    other: Option<usize>,
+    config: &Config,
+    trace: &Trace,
+    number: usize,
+    map: &RoundMap,
+) -> Option<usize>
+    requires { rounds_fit config.now trace.now.rounds ≡ true }
+    ensures { IsOtherWith (run_in config.now trace.now) number map.now other result }
+{
+    if other.is_some() {
+        return other;
+    }
+    if is_map_of_run(config, trace, number, map) {
         None
+    } else {
+        Some(number)
     }
 }
 

@@ -2,9 +2,7 @@
 //! are of, and what has each minislot of a MAP.
 //!
 //! ```
-//! let maps = read_maps(alloc, &file)?; // or the number of the first record that is none
-//! let judged = Judged::new(maps, lines);
-//! let first = headings_breach(&config, &trace, &judged); // the first MAP that isn't that of the run, or is missing
+//! let first = headings_breach(alloc, &config, &trace, &file)?; // the first MAP that isn't that of the run, or is missing
 //! ```
 //!
 //! What they answer stands in `specs/`, in the order of its `Lib.antt`.
@@ -39,15 +37,19 @@ mod region_lines;
 // what must be in a MAP,
 mod map_regions;
 
+// the lines of one MAP after another,
+mod gathered;
+
 // and the rule.
 mod region_rule;
 
 // Laws of maps files.
 mod laws;
 
+pub use gathered::MapRegions;
 pub use headings::headings_breach;
 pub use laws::one_reading_of_maps;
 pub use maps_faults::MapsFault;
-pub use maps_reading::read_maps;
-pub use places::places_breach;
+pub use places::{lacked_place, places_breach};
+pub use region_lines::map_of;
 pub use region_rule::regions_breach;

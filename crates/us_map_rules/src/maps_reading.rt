@@ -2,33 +2,15 @@ ghost use Rattle.std.specs.Prelude.{◌≡◌, ◌++◌, IfSome, IfNone, IfOk};
 ghost use Rattle.us_codec.specs.MapsFiles.{Piece, IsPiece, record_bytes};
 ghost use Rattle.us_lawful.specs.Lawful.{IsRoundMap};
 ghost use Rattle.us_lawful.specs.Texts.{record_of};
-ghost use Rattle.us_map_rules.specs.MapsReading.{Answers, BeginsNoPiece, BeginsNoRecord};
+ghost use Rattle.us_map_rules.specs.MapsReading.{BeginsNoPiece, BeginsNoRecord};
 
-use crate::maps_faults::MapsFault;
 use std::alloc::Global;
 use us_codec::{MapFault, decode};
 use us_lawful::RoundMap;
 use us_slots::NoMemory;
 
-/// The MAPs whose records these bytes are, or the first record that is none: one that is cut, or whose body isn't in the
-/// grammar. Rounds aren't judged. No bytes have no MAPs.
-pub fn read_maps(alloc: Global, file: &[u8]) -> Result<Vec<RoundMap>, MapsFault>
-    ensures { Answers file.now result }
-{
-    let mut maps = Vec::new(alloc);
-    let mut rest = file;
-    while !rest.is_empty() {
-        let Some((map, behind)) = first_map(alloc, rest)? else {
-            return Err(MapsFault::Record(maps.len() as u64));
-        };
-        maps.push(map)?;
-        rest = behind;
-    }
-    Ok(maps)
-}
-
 /// The MAP of the record that bytes begin with, and what stands behind it; `None` where they begin with no record of a MAP.
-fn first_map(alloc: Global, bytes: &[u8]) -> Result<Option<(RoundMap, &[u8])>, NoMemory>
+pub(crate) fn first_map(alloc: Global, bytes: &[u8]) -> Result<Option<(RoundMap, &[u8])>, NoMemory>
     ensures found { IfOk result (λ found. IfSome found (λ first.
         IsRoundMap first.0 × (bytes.now ≡ record_bytes (record_of first.0) ++ first.1.now))) }
     ensures none { IfOk result (λ found. IfNone found (BeginsNoRecord bytes.now)) }
@@ -47,7 +29,7 @@ fn first_map(alloc: Global, bytes: &[u8]) -> Result<Option<(RoundMap, &[u8])>, N
 
 /// The round and the body of the record that bytes begin with, whatever that spells, and what stands behind it; `None`
 /// where the bytes end inside it.
-fn first_piece(bytes: &[u8]) -> Option<(u32, &[u8], &[u8])>
+pub(crate) fn first_piece(bytes: &[u8]) -> Option<(u32, &[u8], &[u8])>
     ensures found { IfSome result (λ first.
         let piece : Piece = record { round = first.0; body = first.1.now } in
         IsPiece piece × (bytes.now ≡ record_bytes piece ++ first.2.now)) }

@@ -24,7 +24,7 @@ pub fn places_breach(config: &Config, trace: &Trace, judged: &Judged) -> Option<
 }
 
 /// The place of a line, where the run lacks its round or its channel.
-fn lacked_place(config: &Config, trace: &Trace, line: &Row) -> Option<Place>
+pub fn lacked_place(config: &Config, trace: &Trace, line: &Row) -> Option<Place>
     ensures { IsFirstFailure config.now.channels (spec.IsOfLackedPlace (run_in config.now trace.now) line.now) result }
 {
     let place = place_of(line)?;

@@ -1,13 +1,12 @@
-ghost use Rattle.std.specs.Prelude.{◌≡◌, ◌==◌, filter, filter_map, map, position, length, true, IfOk, IfSome, slice_index_or, ◌-◌, ◌≤◌, ◌<◌, ◌+◌};
+ghost use Rattle.std.specs.Prelude.{◌≡◌, ◌==◌, ◌<◌, filter_map, option_map, position, length, IfOk, IfSome};
 ghost use Rattle.std.specs.List.Sorted.{IsPermutation, IsNonDecreasingBy};
 ghost use Rattle.us_lawful.specs.Regions as rule;
-ghost use Rattle.us_map_rules.specs.declared.region_lines.PlacedRegion.{PlacedRegion};
 ghost use Rattle.us_map_rules.specs.RegionLines as spec;
-ghost use Rattle.us_map_rules.specs.RegionLines.{IsCut};
 
 use crate::regions::Region;
 use std::alloc::Global;
 use us_flows::{Channel, Config};
+use us_requests::Trace;
 use us_round::{Grant, Row};
 use us_slots::NoMemory;
 
@@ -53,12 +52,23 @@ fn lines_as_they_come(
 }
 
 /// The minislots of a line, if it is a G line whose round and channel the run has.
-fn placed_line(config: &Config, rounds: u32, line: &Row) -> Option<PlacedRegion>
+pub(crate) fn placed_line(config: &Config, rounds: u32, line: &Row) -> Option<PlacedRegion>
     ensures { result ≡ spec.placed_line config.now rounds line.now }
 {
     match line {
         Row::Granted(grant) if grant.round < u64::from(rounds) => placed_grant(config, grant),
         _ => None,
+    }
+}
+
+/// The number of the MAP that a G line is for, by round and then by channel in table order; `None` of another line, and
+/// where the run lacks its round or its channel.
+pub fn map_of(config: &Config, trace: &Trace, line: &Row) -> Option<u64>
+    ensures { result ≡ option_map (λ one. one.map) (spec.placed_line config.now trace.now.rounds line.now) }
+{
+    match placed_line(config, trace.rounds(), line) {
+        Some(one) => Some(one.map),
+        None => None,
     }
 }
 
@@ -87,7 +97,7 @@ fn place_of(channels: &[Channel], id: u64) -> Option<usize>
 }
 
 /// The number of the MAP of a round and of the channel at a place of the table.
-pub(crate) fn map_number(config: &Config, round: u64, place: usize) -> u64
+fn map_number(config: &Config, round: u64, place: usize) -> u64
     requires round { round < 4294967296 }
     requires place { place < length config.now.channels }
     ensures { result ≡ spec.map_number config.now round place }
@@ -105,66 +115,4 @@ fn region_of(grant: &Grant) -> Region
         sid: grant.sid,
         iuc: grant.iuc,
     }
-}
-
-/// Those of one MAP, and where they end. That they begin at `hint`, where those of the MAP before it end, is tried first.
-pub(crate) fn of_map(placed: &[PlacedRegion], hint: usize, map: u64) -> (&[PlacedRegion], usize)
-    requires { IsNonDecreasingBy (λ p. p.map) placed.now }
-    ensures { result.0.now ≡ filter (λ p. p.map == map) placed.now }
-{
-    let from = start_of(placed, hint, map);
-    let to = end_of(placed, from, map);
-    (&placed[from..to], to)
-}
-
-/// Where those of a MAP begin.
-fn start_of(placed: &[PlacedRegion], hint: usize, map: u64) -> usize
-    requires { IsNonDecreasingBy (λ p. p.map) placed.now }
-    ensures { IsCut placed.now map result }
-{
-    if is_start(placed, hint, map) {
-        hint
-    } else {
-        placed.partition_point(|p| p.map < map)
-    }
-}
-
-/// Whether those of a MAP begin here.
-fn is_start(placed: &[PlacedRegion], at: usize, map: u64) -> bool
-    requires { IsNonDecreasingBy (λ p. p.map) placed.now }
-    ensures { result ≡ true → IsCut placed.now map at }
-{
-    if at > placed.len() {
-        return false;
-    }
-    is_behind_others(placed, at, map) && is_before_others(placed, at, map)
-}
-
-/// Whether none stands just before this place, or one of a MAP before this one.
-fn is_behind_others(placed: &[PlacedRegion], at: usize, map: u64) -> bool
-    requires { at ≤ length placed.now }
-    ensures { result ≡ true → (d : PlacedRegion) → 0 < at → (slice_index_or placed.now (at - 1) d).map < map }
-{
-    at == 0 || placed[at - 1].map < map
-}
-
-/// Whether none stands here, or one of this MAP or of one behind it.
-fn is_before_others(placed: &[PlacedRegion], at: usize, map: u64) -> bool
-    ensures { result ≡ true → (d : PlacedRegion) → at < length placed.now → map ≤ (slice_index_or placed.now at d).map }
-{
-    at >= placed.len() || placed[at].map >= map
-}
-
-/// Where those of a MAP end that begin at `from`.
-fn end_of(placed: &[PlacedRegion], from: usize, map: u64) -> usize
-    requires ordered { IsNonDecreasingBy (λ p. p.map) placed.now }
-    requires begins { IsCut placed.now map from }
-    ensures above { from ≤ result }
-    ensures ends { IsCut placed.now (map + 1) result }
-{
-    let mut to = from;
-    while to < placed.len() && placed[to].map == map {
-        to += 1;
-    }
-    to
 }

@@ -90,3 +90,41 @@ fn windows_that_end_with_a_round(rt: HostRuntime) {
     };
     compare_by(&rt, rt.alloc(), ON_BOUNDS, &[missed, left_out, early, open]);
 }
+
+/// A station whose windows close in each round, one after another.
+const EACH_ROUND: &str = "
+[[station]]
+id = 7
+channel = 1
+sid = 5
+start_us = 0
+interval_us = 2000
+jitter_us = 1000
+";
+
+/// Their lines, the last one first.
+const LAST: &str = "M,2,1,station,7,2,0";
+
+const MIDDLE: &str = "M,1,1,station,7,1,0";
+
+const EARLIEST: &str = "M,0,1,station,7,0,0";
+
+#[test]
+fn falling_order(rt: HostRuntime) {
+    let all = Case {
+        name: "each missed, the last one told first",
+        lines: &[LAST, MIDDLE, EARLIEST],
+        answer: None,
+    };
+    let left_out = Case {
+        name: "one left out among them",
+        lines: &[LAST, EARLIEST],
+        answer: Some((1, 1, 7)),
+    };
+    let twice = Case {
+        name: "one told twice among them",
+        lines: &[LAST, MIDDLE, EARLIEST, MIDDLE],
+        answer: Some((1, 1, 7)),
+    };
+    compare_by(&rt, rt.alloc(), EACH_ROUND, &[all, left_out, twice]);
+}

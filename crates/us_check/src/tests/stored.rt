@@ -11,8 +11,16 @@ fn stored_run_holds(rt: HostRuntime) {
 }
 
 /// Reports with one thing changed, and which rule that breaks where.
-static REPORTS: [(&str, Rule, u64, u64, u64); 9] = [
+static REPORTS: [(&str, Rule, u64, u64, u64); 10] = [
     ("F,1,0,0,-\nU,0,0,0\n", Rule::Minislots, 1, 1, 0),
+    // a line of an earlier round behind one of a later round
+    (
+        "G,1,1,req,1,0,0,291,10,0,32,1000\nG,0,1,req,1,0,0,291,10,0,32,1000\nF,1,0,0,-\nU,0,0,0\n",
+        Rule::Minislots,
+        0,
+        1,
+        0,
+    ),
     (
         "M,0,1,station,7,0,0\nG,1,1,req,1,0,0,291,10,0,32,1000\nF,1,0,0,-\nU,0,0,0\n",
         Rule::Occurrences,

@@ -1,7 +1,8 @@
 use std::alloc::Global;
 use std::process::Abort;
 use us_credit_rules::{
-    Accounts, activities_breach, counts_breach, credits_breach, finals_breach, rates_breach,
+    activities_breach, counts_breach, credits_breach, finals_breach, lines_of_report,
+    rates_breach,
 };
 use us_flows::Config;
 use us_lawful::{Judged, Place, report_rows};
@@ -151,12 +152,12 @@ fn answer(
     if !config.rounds_fit(trace.rounds()) {
         return Err(NoMemory);
     }
-    let accounts = Accounts::new(alloc, config, trace, judged)?;
+    let lines = lines_of_report(alloc, config, trace, judged)?;
     match rule {
-        Rule::Rates => Ok(rates_breach(config, trace, judged, &accounts)),
-        Rule::Credits => Ok(credits_breach(config, trace, judged, &accounts)),
-        Rule::Finals => finals_breach(alloc, config, trace, judged, &accounts),
-        Rule::Activities => activities_breach(alloc, config, trace, judged),
-        Rule::Counts => Ok(counts_breach(config, trace, judged)),
+        Rule::Rates => Ok(rates_breach(config, &lines)),
+        Rule::Credits => Ok(credits_breach(config, &lines)),
+        Rule::Finals => finals_breach(alloc, config, trace, &lines),
+        Rule::Activities => activities_breach(alloc, config, trace, &lines),
+        Rule::Counts => Ok(counts_breach(trace, &lines)),
     }
 }

@@ -3,7 +3,7 @@ use std::fmt::Debug;
 use std::process::Abort;
 use us_flows::Config;
 use us_lawful::{Judged, Place};
-use us_map_rules::{MapsFault, headings_breach, places_breach, read_maps};
+use us_map_rules::{MapsFault, headings_breach, places_breach};
 use us_requests::Trace;
 use us_round::Row;
 use us_samples::put_channel;
@@ -42,11 +42,10 @@ fn trace_of(alloc: Global, config: &Config) -> Option<Trace> {
 
 /// The first MAP of a file that isn't that of a run with these channels.
 pub fn heading_of(alloc: Global, channels: &[u8], file: &[u8]) -> Result<Option<Place>, MapsFault> {
-    let judged = Judged::new(read_maps(alloc, file)?, Vec::new(alloc));
     let config = config_of(alloc, channels).ok_or(MapsFault::NoMemory)?;
     let trace = trace_of(alloc, &config).ok_or(MapsFault::NoMemory)?;
     if config.rounds_fit(trace.rounds()) {
-        Ok(headings_breach(&config, &trace, &judged))
+        headings_breach(alloc, &config, &trace, file)
     } else {
         Err(MapsFault::NoMemory)
     }

@@ -2,22 +2,25 @@ use super::base::{STORED, heading_of, same};
 use std::alloc::Global;
 use std::fmt;
 use us_lawful::Place;
-use us_map_rules::{MapsFault, read_maps};
+use us_map_rules::MapsFault;
 
-/// How many MAPs a file has.
-pub fn count_of(alloc: Global, file: &[u8]) -> Result<usize, MapsFault> {
-    Ok(read_maps(alloc, file)?.len())
+/// The number of the first MAP that isn't that of the stored run, which is of one channel.
+pub fn number_of(alloc: Global, file: &[u8]) -> Result<Option<u64>, MapsFault> {
+    match heading_of(alloc, &[1], file)? {
+        Some(place) => Ok(Some(place.third)),
+        None => Ok(None),
+    }
 }
 
 /// A front of a file is one only where it ends behind a record.
 #[test]
 fn every_prefix(rt: HostRuntime) {
     for end in 0..=72 {
-        let found = count_of(rt.alloc(), &STORED[..end]);
+        let found = number_of(rt.alloc(), &STORED[..end]);
         let wanted = match end {
-            0 => Ok(0),
-            34 => Ok(1),
-            72 => Ok(2),
+            0 => Ok(Some(0)),
+            34 => Ok(Some(1)),
+            72 => Ok(None),
             _ => Err(MapsFault::Record(if end < 34 { 0 } else { 1 })),
         };
         same(&rt, &(end, found), &(end, wanted), "a prefix");

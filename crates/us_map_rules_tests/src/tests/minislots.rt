@@ -1,8 +1,7 @@
 use std::alloc::Global;
 use std::process::Abort;
-use us_codec::decode;
 use us_flows::{Config, ConfigFault};
-use us_lawful::{Judged, Place, RoundMap, report_rows};
+use us_lawful::{Place, report_rows};
 use us_map_rules::regions_breach;
 use us_requests::Trace;
 use us_samples::{base, put_channel};
@@ -47,8 +46,9 @@ fn compare(rt: &impl Abort, alloc: Global, config: &Config, cases: &[Case<'_>]) 
 /// Where a case is broken; nothing where it can't be judged, as where memory is refused.
 fn judge(alloc: Global, config: &Config, case: &Case<'_>) -> Option<Option<Place>> {
     let trace = empty_trace(alloc, config)?;
-    let judged = judged_of(alloc, case)?;
-    regions_breach(alloc, config, &trace, &judged).ok()
+    let file = file_of(alloc, case)?;
+    let lines = report_rows(alloc, case.report.as_bytes()).ok()?;
+    regions_breach(alloc, config, &trace, &file, &lines).ok()
 }
 
 /// The trace of no request, for two rounds.
@@ -61,27 +61,27 @@ fn empty_trace(alloc: Global, config: &Config) -> Option<Trace> {
     }
 }
 
-fn judged_of(alloc: Global, case: &Case<'_>) -> Option<Judged> {
-    let mut maps = Vec::new(alloc);
+/// The maps file of a case.
+fn file_of(alloc: Global, case: &Case<'_>) -> Option<Vec<u8>> {
+    let mut file = Vec::new(alloc);
     for words in case.maps {
-        maps.push(map_of(alloc, words)?).ok()?;
+        push_record(&mut file, words)?;
     }
-    let lines = report_rows(alloc, case.report.as_bytes()).ok()?;
-    Some(Judged::new(maps, lines))
+    Some(file)
 }
 
-/// The MAP of these elements. What stands before them plays no part in this rule.
-fn map_of(alloc: Global, words: &[u32]) -> Option<RoundMap> {
-    let mut body = Vec::new(alloc);
-    body.extend_from_slice(&[1, 0]).ok()?;
-    body.push(u8::try_from(words.len()).ok()?).ok()?;
-    body.extend_from_slice(&[0, 0, 0, 0, 0, 0, 0, 0, 0, 2, 6, 3, 8])
+/// Puts the record of a MAP of these elements to a file. What stands before them plays no part in this rule.
+fn push_record(file: &mut Vec<u8>, words: &[u32]) -> Option<()> {
+    let count = u8::try_from(words.len()).ok()?;
+    file.extend_from_slice(&[0, 0, 0, 0]).ok()?;
+    file.extend_from_slice(&(16 + 4 * u16::from(count)).to_be_bytes())
+        .ok()?;
+    file.extend_from_slice(&[1, 0, count, 0, 0, 0, 0, 0, 0, 0, 0, 0, 2, 6, 3, 8])
         .ok()?;
     for word in words {
-        body.extend_from_slice(&word.to_be_bytes()).ok()?;
+        file.extend_from_slice(&word.to_be_bytes()).ok()?;
     }
-    let body = decode(alloc, &body).ok()?;
-    Some(RoundMap { round: 0, body })
+    Some(())
 }
 
 /// Judges each case by the configuration of this text.
@@ -243,6 +243,18 @@ fn of_two_channels(rt: HostRuntime) -> Result<(), ConfigFault> {
         report: LINE,
         answer: None,
     };
+    let any_order = Case {
+        name: "a line of a MAP before that of another line",
+        maps: &[QUIET, GRANTED, GRANTED, GRANTED],
+        report: "G,1,1,req,1,0,0,291,10,0,32,1000\nG,1,2,req,1,0,0,291,10,0,32,1000\nG,0,1,req,1,0,0,291,10,0,32,1000\n",
+        ..lawful
+    };
+    let any_order_broken = Case {
+        name: "and one of a minislot more",
+        report: "G,1,1,req,1,0,0,291,10,0,32,1000\nG,1,2,req,1,0,0,291,10,0,33,1000\nG,0,1,req,1,0,0,291,10,0,32,1000\n",
+        answer: Some((1, 2, 0)),
+        ..any_order
+    };
     let other_channel = Case {
         name: "a line on the other channel",
         report: "G,1,2,req,1,0,0,291,10,0,32,1000\n",
@@ -265,7 +277,14 @@ fn of_two_channels(rt: HostRuntime) -> Result<(), ConfigFault> {
         &rt,
         rt.alloc(),
         text.as_str(),
-        &[lawful, other_channel, both, earlier],
+        &[
+            lawful,
+            any_order,
+            any_order_broken,
+            other_channel,
+            both,
+            earlier,
+        ],
     )
 }
 

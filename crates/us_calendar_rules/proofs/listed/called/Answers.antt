@@ -1,34 +1,36 @@
-use Rattle.std.proofs.Common.{rules, ap, sym, ◌∙◌}
-use Rattle.std.specs.Ordering.{nat_cmp}
-use Rattle.std.proofs.lemmas.List.Sorted.{answers_always}
+use Rattle.std.proofs.Common.{ltb, ltb-false, ap, length, rules, sym, ◌∙◌, arith}
+use Rattle.std.proofs.lemmas.List.{get_or_default}
+use Rattle.std.proofs.lemmas.List.Sorted.{IsPartitionPoint-from_clause, IsPartitionedBy-ltb}
 use Rattle.us_calendar_rules.specs.Listed.{key_of, rank_called}
-use Rattle.us_calendar_rules.proofs.FoundLemmas.{equal_is, missed, searchable}
-use Rattle.us_calendar_rules.proofs.ListedLemmas.{called_found, key_missed, none_called, no_rank, rank_is}
+use Rattle.us_calendar_rules.proofs.ListedLemmas.{key_missed, none_called, no_rank, rank_is}
 use Rattle.us_calendar_rules.proofs.listed.called.Goals as goal
 
 pub returns-in_err-key : goal.returns-in_err-key
 returns-in_err-key c =
-    c.from_residual.ensures
-    ∙ sym (none_called c.args.word c.args.id c.args.entries.now
+    rw c.from_residual.ensures (none_called c.args.word c.args.id c.args.entries.now
     (no_rank c.args.id (rank_called c.args.word) c.in_err-key.ensures))
 
-pub returns-in-Ok : goal.returns-in-Ok
-returns-in-Ok c =
+pub returns-in_default : goal.returns-in_default
+returns-in_default c =
     let es = c.args.entries.now in
-    let l = c.index-entries-place.result in
-    let rank = rank_is c.args.id c.in_ok-key.key (rank_called c.args.word) c.in_ok-key.ensures in
-    let within = c.in-Ok.ensures.bound in
-    let equal = c.in-Ok.ensures.position (λ l. key_of l.entry) (answers_always _ _ _ (λ f a r g h. search rules)) l in
-    let here = ap (λ m. nat_cmp (key_of m.entry) c.in_ok-key.key) c.index-entries-place.is ∙ equal in
-    sym (called_found c.requires.0 es c.args.word c.args.id rank.0 l c.requires.1
-    (c.in-Ok.place, within, sym c.index-entries-place.is)
-    rank.1 (equal_is (key_of l.entry) c.in_ok-key.key here ∙ rank.2))
+    let key = c.in_ok-key.key in
+    let rising = c.requires.1.rising in
+    let rank = rank_is c.args.id key (rank_called c.args.word) c.in_ok-key.ensures in
+    key_missed es c.args.word c.args.id rank.0 key c.partition_point-place.result rank.1 rank.2 rising
+    (IsPartitionPoint-from_clause (λ l. ltb (key_of l.entry) key) es _ c.partition_point-place.ensures.partitioned
+    (IsPartitionedBy-ltb (λ l. key_of l.entry) es key rising) (λ a r q k. search rules))
+    (λ d inside is. c.if-key_of-key.false (c.key_of.ensures.value
+    ∙ ap (λ l. key_of l.entry) (c.listed.view_is ∙ c.in-Some.ensures.lookup.1
+    ∙ get_or_default es c.partition_point-place.result c.in-Some.listed.now d inside) ∙ is))
 
-pub returns-in-Err : goal.returns-in-Err
-returns-in-Err c =
+pub returns-in_default-2 : goal.returns-in_default-2
+returns-in_default-2 c =
     let es = c.args.entries.now in
-    let rank = rank_is c.args.id c.in_ok-key.key (rank_called c.args.word) c.in_ok-key.ensures in
-    let parted = c.in-Err.ensures.position (λ l. key_of l.entry) (answers_always _ _ _ (λ f a r g h. search rules))
-    (searchable (λ l. key_of l.entry) es c.in_ok-key.key c.requires.1.rising) in
-    sym (key_missed es c.args.word c.args.id rank.0 rank.1 (λ l has is.
-    missed (λ l. key_of l.entry) es c.in_ok-key.key c.in-Err.field-0 parted l has (is ∙ sym rank.2)))
+    let key = c.in_ok-key.key in
+    let rising = c.requires.1.rising in
+    let rank = rank_is c.args.id key (rank_called c.args.word) c.in_ok-key.ensures in
+    let past = ltb-false c.partition_point-place.result (length es) (sym (rw c.in_default.is at c.get.ensures.lookup).0) in
+    key_missed es c.args.word c.args.id rank.0 key c.partition_point-place.result rank.1 rank.2 rising
+    (IsPartitionPoint-from_clause (λ l. ltb (key_of l.entry) key) es _ c.partition_point-place.ensures.partitioned
+    (IsPartitionedBy-ltb (λ l. key_of l.entry) es key rising) (λ a r q k. search rules))
+    (λ d inside. absurd (omega (arith, past, inside)))

@@ -6,7 +6,7 @@ use Rattle.us_calendar_rules.proofs.windows.starts_within.Goals as goal
 pub map_len-requires : goal.map_len-requires
 map_len-requires c =
     let t = c.args.run.now.tables in
-    let l = c.args.occurrence.now.of in
+    let l = c.args.of.now in
     let tables : t ≡ c.run.inside.config.now = ap (λ r. r.tables) (sym c.run.view_is) in
     let channel : l.channel ≡ c.of.inside.channel = ap (λ m. m.channel) (sym c.of.view_is) in
     subst (λ u. IsChannel u c.of.inside.channel) tables

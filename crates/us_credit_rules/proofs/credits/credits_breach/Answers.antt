@@ -1,15 +1,20 @@
 use Rattle.us_lawful.specs.Runs.{run_in}
 use Rattle.us_lawful.specs.Credits.{credit_lines_hold, credits_hold, sums_hold}
+use Rattle.us_lawful.proofs.SameLemmas.{same_moved}
 use Rattle.us_breaches.proofs.BreachLemmas.{both_tests, holds_first}
+use Rattle.us_lawful.specs.Runs.{requested_in}
+use Rattle.us_credit_rules.proofs.KeptLemmas.{requests_moved}
+use Rattle.us_credit_rules.proofs.RepeatLemmas.{lines_first}
 use Rattle.us_credit_rules.proofs.credits.credits_breach.Goals as goal
 
 pub returns : goal.returns
-returns c =
+returns c = λ v judged are.
     let t = c.args.config.now in
-    let judged = c.args.judged.now in
-    let run = run_in t c.args.trace.now in
-    let all = c.args.accounts.now in
-    rw (c.earlier.ensures, c.channels.ensures.value, c.wrong_line.ensures)
+    let run = run_in t v in
+    let kept = c.args.lines.now in
+    let wrong = lines_first t v judged.lines (requested_in are.0) kept.requests.repeats.first c.channels.ensures.lawful
+    (requests_moved judged.lines are.0 (same_moved judged.lines are.0 are.1)) are.2.requests.wrong in
+    rw (c.earlier.ensures, c.channels.ensures.value)
     (holds_first t.channels (credits_hold run judged) _
-    (both_tests t.channels (credit_lines_hold run judged) (sums_hold run judged) all.wrong_line c.first_sum-sum.result
-    c.requires.wrong_line c.first_sum-sum.ensures))
+    (both_tests t.channels (credit_lines_hold run judged) (sums_hold run judged) kept.requests.repeats.first
+    c.first_sum-sum.result wrong (c.first_sum-sum.ensures v judged are)))

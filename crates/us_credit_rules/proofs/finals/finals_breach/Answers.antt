@@ -1,15 +1,9 @@
-use Rattle.std.proofs.Common.{◌∙◌}
-use Rattle.us_lawful.specs.Runs.{run_in}
-use Rattle.us_credit_rules.proofs.FinalLemmas.{finals_first}
+use Rattle.std.proofs.Common.{refl}
+use Rattle.us_credit_rules.proofs.LastLemmas.{finals_first}
 use Rattle.us_credit_rules.proofs.finals.finals_breach.Goals as goal
 
 pub returns : goal.returns
-returns c =
-    let t = c.args.config.now in
-    let v = c.args.trace.now in
-    let judged = c.args.judged.now in
-    let strange = rw (c.channels.ensures.value, c.rounds.ensures.value, c.seats.ensures ∙ c.requires.accounts.seats, c.deref.ensures.value, c.in_ok-finals.ensures, c.lines.ensures)
-    at c.first_strange-strange.ensures in
-    let wrong = rw c.lines-2.ensures at c.in_ok-wrong.ensures in
-    rw (c.earlier.ensures, c.channels-2.ensures.value)
-    (finals_first t.channels (run_in t v) judged c.first_strange-strange.result c.in_ok-wrong.wrong strange wrong)
+returns c = λ judged are.
+    rw (c.earlier.ensures, c.channels.ensures.value)
+    (finals_first c.args.config.now c.args.trace.now judged.lines c.args.lines.now c.channels.ensures.lawful are judged
+    c.first_wrong-wrong.result refl (c.first_wrong-wrong.ensures judged are))

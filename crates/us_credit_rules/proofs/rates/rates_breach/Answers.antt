@@ -4,14 +4,15 @@ use Rattle.std.proofs.lemmas.Option.{slice_get_read}
 use Rattle.us_lawful.specs.Runs.{run_in}
 use Rattle.us_breaches.specs.Breaches.{IsFirstFailure}
 use Rattle.us_breaches.proofs.BreachLemmas.{all_done, one_more}
-use Rattle.us_credit_rules.proofs.RateLemmas.{rate_first, rate_test, rates_first}
+use Rattle.us_credit_rules.proofs.RuleLemmas.{rate_first, rate_test, rates_first}
 use Rattle.us_credit_rules.proofs.rates.rates_breach.Goals as goal
 
+pub loop-flow-init : goal.loop-flow-init
+loop-flow-init c = λ v judged are p fails. fails
+
 pub loop-flow-preserved : goal.loop-flow-preserved
-loop-flow-preserved c =
+loop-flow-preserved c = λ v judged are.
     let t = c.args.config.now in
-    let v = c.args.trace.now in
-    let judged = c.args.judged.now in
     let flow = c.flow-item.result in
     let flows = c.flows-flow-items.result.now in
     let i = c.loop-flow.flow-index in
@@ -20,17 +21,15 @@ loop-flow-preserved c =
     ∙ slice_get_read flows (length flows) i flow refl c.loop-flow-test.true c.flow-item.is in
     let one : IsFirstFailure t.channels (λ p. rate_test (run_in t v) judged flow p ≡ false) c.flow_breach.result =
     rw c.flow_breach.ensures
-    (rate_first t.channels t v judged c.args.accounts.now i flow c.flows-flow-items.ensures.lawful at c.requires) in
+    (rate_first t.channels t v judged c.args.lines.now i flow c.flows-flow-items.ensures.lawful at are) in
     rw (c.earlier-first.ensures, c.channels.ensures.value)
     (one_more t.channels (λ flow p. rate_test (run_in t v) judged flow p ≡ false) flows i flow flow c.loop-flow.first
-    c.flow_breach.result c.loop-flow-test.true c.flow-item.is c.loop-flow.invariant one)
+    c.flow_breach.result c.loop-flow-test.true c.flow-item.is (c.loop-flow.invariant v judged are) one)
 
 pub returns : goal.returns
-returns c =
+returns c = λ v judged are.
     let t = c.args.config.now in
-    let v = c.args.trace.now in
-    let judged = c.args.judged.now in
     rates_first t.channels (run_in t v) judged c.loop-flow.first
     (rw c.flows-flow-items.ensures.value at (
     all_done t.channels (λ flow p. rate_test (run_in t v) judged flow p ≡ false) c.flows-flow-items.result.now
-    c.loop-flow.flow-index c.loop-flow.first c.loop-flow-test.false c.loop-flow.invariant))
+    c.loop-flow.flow-index c.loop-flow.first c.loop-flow-test.false (c.loop-flow.invariant v judged are)))

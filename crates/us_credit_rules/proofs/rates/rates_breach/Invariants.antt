@@ -1,10 +1,13 @@
 use Rattle.std.proofs.Common.{◌≡◌, take, false}
-use Rattle.us_lawful.specs.Runs.{run_in}
+use Rattle.us_requests.specs.Traces.{TraceAsks}
+use Rattle.us_lawful.specs.Runs.{Judged, run_in}
 use Rattle.us_breaches.specs.Breaches.{IsFirstFailure, Any}
-use Rattle.us_credit_rules.proofs.RateLemmas.{rate_test}
+use Rattle.us_credit_rules.specs.CreditLines.{AreCreditLines}
+use Rattle.us_credit_rules.proofs.RuleLemmas.{rate_test}
 use Rattle.us_credit_rules.proofs.rates.rates_breach.Given as goal
 
 abbrev pub invariant-loop-flow : goal.invariant-loop-flow
 invariant-loop-flow l =
+    (v : TraceAsks) (judged : Judged) → AreCreditLines l.config v judged.lines l.lines →
     IsFirstFailure l.config.channels
-    (Any (λ flow p. rate_test (run_in l.config l.trace) l.judged flow p ≡ false) (take l.flow-index l.flow-items)) l.first
+    (Any (λ flow p. rate_test (run_in l.config v) judged flow p ≡ false) (take l.flow-index l.flow-items)) l.first

@@ -16,7 +16,7 @@ loop-place-preserved c = λ q.
     let old = c.loop-place.invariant q in
     let code = c.code-code.ensures in
     let there : is_some (get_or before (code_of turn) None) ≡ not c.is_none.result =
-    ap is_some (ap₂ (λ these k. get_or these k None) (sym c.deref.ensures.value) (sym code) ∙ sym c.place_at.ensures)
+    ap is_some (ap₂ (λ these k. get_or these k None) (sym c.deref.ensures.value) (sym (c.from.ensures ∙ code)) ∙ sym c.place_at.ensures)
     ∙ c.is_none.ensures in
     elim c.if-is_none.branch [
       | then-is_none+in_ok-put w ↦

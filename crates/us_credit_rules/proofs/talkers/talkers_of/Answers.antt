@@ -1,30 +1,23 @@
-use Rattle.std.proofs.Common.{◌≡◌, ◌++◌, [], ◌∷◌, length, ap, append-nil, subst, sym, ◌∙◌, arith}
-use Rattle.std.specs.List.{AllByRecursion}
-use Rattle.us_flows.proofs.WordLemmas.{few_words}
+use Rattle.std.proofs.Common.{◌≡◌, ◌++◌, [], ◌∷◌, length, ap, append-nil, sym, ◌∙◌, arith}
 use Rattle.us_flows.specs.Clusters.{tells_activity}
-use Rattle.us_flows.specs.Lawful.{IsFlow}
-use Rattle.us_calendar.proofs.ListingLemmas.{listed_at}
+use Rattle.us_credit_rules.proofs.SeatLemmas.{few_of}
 use Rattle.us_credit_rules.proofs.TalkerLemmas.{no_talker, one_talker, own_talker, talker_more}
 use Rattle.us_credit_rules.proofs.talkers.talkers_of.Goals as goal
 use Rattle.us_credit_rules.proofs.talkers.talkers_of.Goals.{then-tells_activity+in_ok-push, else-tells_activity}
 
 pub overflow_cast-word : goal.overflow_cast-word
 overflow_cast-word c =
-    let t = c.args.config.now in
-    let lawful = listed_at (IsFlow t) c.flows-flow-items.result.now c.loop-flow.flow-index c.flow-item.result
-    (subst (AllByRecursion (IsFlow t)) (sym c.flows-flow-items.ensures.value) c.flows-flow-items.ensures.lawful.flows)
-    c.loop-flow-test.true c.flow-item.is in
-    omega (arith, few_words c.flow-item.result lawful.some_clusters.1, c.words.ensures.value)
+    let few = few_of c.args.config.now c.flows-flow-items.result.now c.loop-flow.flow-index c.flow-item.result
+    c.flows-flow-items.ensures.value c.flows-flow-items.ensures.lawful c.loop-flow-test.true c.flow-item.is in
+    omega (arith, few.1, c.words.ensures.value)
 
 pub overflow_add-word : goal.overflow_add-word
 overflow_add-word c =
-    let t = c.args.config.now in
-    let lawful = listed_at (IsFlow t) c.flows-flow-items.result.now c.loop-flow.flow-index c.flow-item.result
-    (subst (AllByRecursion (IsFlow t)) (sym c.flows-flow-items.ensures.value) c.flows-flow-items.ensures.lawful.flows)
-    c.loop-flow-test.true c.flow-item.is in
+    let few = few_of c.args.config.now c.flows-flow-items.result.now c.loop-flow.flow-index c.flow-item.result
+    c.flows-flow-items.ensures.value c.flows-flow-items.ensures.lawful c.loop-flow-test.true c.flow-item.is in
     omega (
       arith,
-      few_words c.flow-item.result lawful.some_clusters.1,
+      few.1,
       c.words.ensures.value,
       c.loop-flow.invariant.few,
       c.loop-flow-test.true,
@@ -34,15 +27,13 @@ overflow_add-word c =
 
 pub loop-flow-preserved : goal.loop-flow-preserved
 loop-flow-preserved c =
-    let t = c.args.config.now in
     let flows = c.flows-flow-items.result.now in
     let flow = c.flow-item.result in
     let i = c.loop-flow.flow-index in
     let word = c.loop-flow.word in
     let talkers = c.loop-flow.talkers.items in
-    let lawful = listed_at (IsFlow t) flows i flow
-    (subst (AllByRecursion (IsFlow t)) (sym c.flows-flow-items.ensures.value) c.flows-flow-items.ensures.lawful.flows)
-    c.loop-flow-test.true c.flow-item.is in
+    let few = few_of c.args.config.now c.flows-flow-items.result.now c.loop-flow.flow-index c.flow-item.result
+    c.flows-flow-items.ensures.value c.flows-flow-items.ensures.lawful c.loop-flow-test.true c.flow-item.is in
     let tells : c.tells_activity.result ≡ tells_activity flow.kind =
     c.tells_activity.ensures.value ∙ ap tells_activity c.kind.ensures.value in
     let put : c.if-tells_activity.talkers.items ≡ talkers ++ own_talker word flow =
@@ -60,7 +51,7 @@ loop-flow-preserved c =
           c.flow-item.is c.words.ensures.value put c.loop-flow.invariant.left;
       few = omega (
         arith,
-        few_words flow lawful.some_clusters.1,
+        few.1,
         c.words.ensures.value,
         c.loop-flow.invariant.few,
       );

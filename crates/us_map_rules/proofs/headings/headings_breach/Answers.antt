@@ -1,22 +1,41 @@
-use Rattle.std.proofs.Common.{◌*◌, ◌<◌, ◌≤◌, length, arith}
+use Rattle.std.proofs.Common.{◌*◌, ◌<◌, ◌≤◌, length, arith, sym, ◌∙◌, subst}
+use Rattle.std.proofs.lemmas.Bool.{eqb-true}
 use Rattle.us_lawful.specs.Runs.{Run, run_in}
-use Rattle.us_map_rules.proofs.HeadingLemmas.{first_missing, all_agree, length_headings}
+use Rattle.us_map_rules.proofs.HeadingLemmas.{Walked, answer_missing, answer_none, walked_nothing, walked_on}
+use Rattle.us_map_rules.proofs.MapsLemmas.{less_left}
 use Rattle.us_map_rules.proofs.headings.headings_breach.Goals as goal
 
-pub returns-then-maps-rounds : goal.returns-then-maps-rounds
-returns-then-maps-rounds c =
-    let run : Run = run_in c.args.config.now c.args.trace.now in
-    let few : length c.args.judged.now.maps < run.rounds * length run.tables.channels =
-    rw (c.maps-maps.ensures, c.channels.ensures.value, c.rounds.ensures.value) at c.if-maps-rounds.true in
-    rw (c.place_of-then-maps-rounds.ensures, c.maps-maps.ensures)
-    (first_missing c.args.config.now.channels run c.args.judged.now c.loop-number.number c.loop-number.invariant
-    (rw c.maps-maps.ensures at c.loop-number-test.false) (omega (arith, few, length_headings run)))
+pub loop-rest-init : goal.loop-rest-init
+loop-rest-init c = (walked_nothing (run_in c.args.config.now c.args.trace.now) c.args.file.now, omega arith)
 
-pub returns-else-maps-rounds : goal.returns-else-maps-rounds
-returns-else-maps-rounds c =
+pub loop-rest-smaller : goal.loop-rest-smaller
+loop-rest-smaller c =
+    let found = rw c.in-Some.is at c.in_ok-map.ensures.found in
+    less_left c.loop-rest.rest.now c.in-Some.behind.now c.in-Some.map found.1
+
+pub loop-rest-preserved : goal.loop-rest-preserved
+loop-rest-preserved c =
+    let found = rw c.in-Some.is at c.in_ok-map.ensures.found in (
+      walked_on (run_in c.args.config.now c.args.trace.now) c.args.file.now c.loop-rest.rest.now c.in-Some.behind.now
+          c.loop-rest.number c.in-Some.map c.loop-rest.other _ found.0 found.1 c.other_with-other.ensures c.loop-rest.invariant.0,
+      omega (arith, less_left c.loop-rest.rest.now c.in-Some.behind.now c.in-Some.map found.1, c.loop-rest.invariant.1),
+    )
+
+pub returns-then-number-rounds : goal.returns-then-number-rounds
+returns-then-number-rounds c =
     let run : Run = run_in c.args.config.now c.args.trace.now in
-    let enough : run.rounds * length run.tables.channels ≤ length c.args.judged.now.maps =
-    rw (c.maps-maps.ensures, c.channels.ensures.value, c.rounds.ensures.value) at c.if-maps-rounds.false in
-    let all : length c.args.judged.now.maps ≤ c.loop-number.number = rw c.maps-maps.ensures at c.loop-number-test.false in
-    all_agree c.args.config.now.channels run c.args.judged.now c.loop-number.number c.loop-number.invariant
-    all (omega (arith, enough, all, length_headings run))
+    let empty = eqb-true (length c.loop-rest.rest.now) 0 (sym c.is_empty.ensures ∙ c.loop-rest-test.false) in
+    let few : c.loop-rest.number < run.rounds * length run.tables.channels =
+    rw (c.channels.ensures.value, c.rounds.ensures.value) at c.if-number-rounds.true in
+    rw c.place_of-then-number-rounds.ensures
+    (answer_missing run c.args.file.now c.loop-rest.rest.now (omega (arith, empty)) c.loop-rest.number few
+    (subst (Walked run c.args.file.now c.loop-rest.rest.now c.loop-rest.number) c.in_default-other.is c.loop-rest.invariant.0))
+
+pub returns : goal.returns
+returns c =
+    let run : Run = run_in c.args.config.now c.args.trace.now in
+    let empty = eqb-true (length c.loop-rest.rest.now) 0 (sym c.is_empty.ensures ∙ c.loop-rest-test.false) in
+    let enough : run.rounds * length run.tables.channels ≤ c.loop-rest.number =
+    rw (c.channels.ensures.value, c.rounds.ensures.value) at c.if-number-rounds.false in
+    answer_none run c.args.file.now c.loop-rest.rest.now (omega (arith, empty)) c.loop-rest.number enough
+    (subst (Walked run c.args.file.now c.loop-rest.rest.now c.loop-rest.number) c.in_default-other.is c.loop-rest.invariant.0)

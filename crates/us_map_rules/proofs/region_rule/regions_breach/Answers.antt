@@ -1,28 +1,22 @@
-use Rattle.std.proofs.Common.{◌<◌, ◌≤◌, subst}
-use Rattle.us_map_rules.proofs.PlacedLemmas.{first_of_all, first_read, holds_everywhere, holds_up_to_next, moved_lines}
+use Rattle.std.proofs.Common.{sym, subst, take_all}
+use Rattle.std.proofs.lemmas.Result.{IfOk-weaker}
+use Rattle.us_lawful.specs.Runs.{run_in}
+use Rattle.us_map_rules.specs.Gathered.{AreTold}
+use Rattle.us_map_rules.proofs.ToldLemmas.{item_more}
 use Rattle.us_map_rules.proofs.region_rule.regions_breach.Goals as goal
 
-pub returns-in-Some : goal.returns-in-Some
-returns-in-Some c =
-    first_of_all c.args.config.now c.args.trace.now c.args.judged.now c.in_ok-placed.placed.items c.loop-round.round c.in-Some.first
-    (moved_lines c.args.config.now c.args.trace.now.rounds _ c.args.judged.now.lines _ _ c.rounds.ensures.value c.lines.ensures
-    c.in_ok-placed.ensures.same)
-    (subst (λ r. c.loop-round.round < r) c.rounds-round-end.ensures.value c.loop-round-test.true)
-    (first_read c.args.config.now c.args.judged.now.maps _ _ _ _ _ _ c.maps.ensures c.deref.ensures.value c.in-Some.is
-    c.in_ok-first.ensures)
-    c.loop-round.invariant
+pub loop-line-init : goal.loop-line-init
+loop-line-init c = λ maps of. c.new-regions.ensures.told (run_in c.args.config.now c.args.trace.now) c.args.file.now maps of
 
-pub loop-round-preserved : goal.loop-round-preserved
-loop-round-preserved c =
-    holds_up_to_next c.args.config.now c.args.trace.now c.args.judged.now c.in_ok-placed.placed.items c.loop-round.round
-    (moved_lines c.args.config.now c.args.trace.now.rounds _ c.args.judged.now.lines _ _ c.rounds.ensures.value c.lines.ensures
-    c.in_ok-placed.ensures.same)
-    (subst (λ r. c.loop-round.round < r) c.rounds-round-end.ensures.value c.loop-round-test.true)
-    (first_read c.args.config.now c.args.judged.now.maps _ _ _ _ _ _ c.maps.ensures c.deref.ensures.value c.in_default.is
-    c.in_ok-first.ensures)
-    c.loop-round.invariant
+pub loop-line-preserved : goal.loop-line-preserved
+loop-line-preserved c = λ maps of.
+    subst (λ ls. AreTold (run_in c.args.config.now c.args.trace.now) c.args.file.now maps ls c.take.new.self)
+    (sym (item_more c.args.lines.now c.loop-line.line-index _ c.loop-line-test.true))
+    (c.in_ok-take.ensures.told c.if-not-branch.false maps _ (c.loop-line.invariant maps of))
 
 pub returns : goal.returns
 returns c =
-    holds_everywhere c.args.config.now c.args.trace.now c.args.judged.now c.loop-round.round
-    (subst (λ r. r ≤ c.loop-round.round) c.rounds-round-end.ensures.value c.loop-round-test.false) c.loop-round.invariant
+    IfOk-weaker c.breach.result _ _ (λ first told maps of. told maps c.args.lines.now
+    (subst (λ ls. AreTold (run_in c.args.config.now c.args.trace.now) c.args.file.now maps ls c.loop-line.regions)
+    (take_all c.loop-line.line-index c.args.lines.now c.loop-line-test.false) (c.loop-line.invariant maps of)))
+    c.breach.ensures

@@ -3,7 +3,7 @@ use Rattle.us_flows.specs.Lawful.{AreTables}
 use Rattle.us_calendar.specs.Activity.{active_in}
 use Rattle.us_lawful.specs.CalendarLines.{channel_entries, round_quarters}
 use Rattle.us_activity.specs.Marks.{is_active}
-use Rattle.us_calendar_rules.proofs.RunLemmas.{speaks_always, speaks_as_told}
+use Rattle.us_calendar_rules.proofs.ListedLemmas.{speaks_always, speaks_as_told}
 use Rattle.us_calendar_rules.proofs.runs.JudgedRun.speaks_in.Goals as goal
 
 pub nonzero_div-round : goal.nonzero_div-round
@@ -25,7 +25,7 @@ returns-in-Some c =
     let s = c.in-Some.silence in
     let t = c.self.inside.config.now in
     let v = c.self.inside.trace.now in
-    let marks = c.self.inside.activities.now in
+    let marks = c.self.inside.activities in
     let is : l.entry.silence ≡ Some s =
     ap (λ m. m.entry.silence) (sym c.of.view_is) ∙ ap (λ m. m.entry.silence) (sym c.of-inside.view_is) ∙ c.in-Some.is in
     let tables : run.tables ≡ t = ap (λ r. r.tables) (sym c.self.view_is) in

@@ -1,0 +1,65 @@
+use Rattle.std.proofs.Common.{◌≡◌, None, Some, ap, ap₂, sym, subst, ◌∙◌}
+use Rattle.std.specs.Prelude.{if◌then◌else◌}
+use Rattle.std.proofs.lemmas.List.{length-set}
+use Rattle.std.specs.List.{list_any}
+use Rattle.us_breaches.specs.Breaches.{At, IsFirstFailure}
+use Rattle.us_breaches.proofs.BreachLemmas.{at_test}
+use Rattle.us_calendar_rules.specs.Failures.{FailsAsLine}
+use Rattle.us_calendar_rules.specs.Naming.{calendar_line, tells_right}
+use Rattle.us_calendar_rules.specs.Told.{told_more}
+use Rattle.us_calendar_rules.proofs.ListedLemmas.{listed_among}
+use Rattle.us_calendar_rules.proofs.TakingLemmas.{none_more, none_right, one_more, one_right}
+use Rattle.us_calendar_rules.proofs.calendar_lines.line_breach.Goals as goal
+
+pub returns-in_default-clause-told : goal.returns-in_default-clause-told
+returns-in_default-clause-told c = λ lines before.
+    none_more c.args.run.now c.args.row.now c.args.entries.now None (sym c.calendar_line.ensures ∙ c.in_default.is)
+    (λ k d inside. tt) lines c.args.told.now.items before
+
+pub returns-in_default-called-clause-told : goal.returns-in_default-called-clause-told
+returns-in_default-called-clause-told c = λ lines before.
+    none_more c.args.run.now c.args.row.now c.args.entries.now (Some c.in-Some.line)
+    (sym c.calendar_line.ensures ∙ c.in-Some.is) c.in_default-called.ensures lines c.args.told.now.items before
+
+pub returns-in_default-called-clause-first : goal.returns-in_default-called-clause-first
+returns-in_default-called-clause-first c =
+    let run = c.args.run.now in
+    let es = c.args.entries.now in
+    let row = c.args.row.now in
+    let line = c.in-Some.line in
+    let is : calendar_line row ≡ Some line = sym c.calendar_line.ensures ∙ c.in-Some.is in
+    subst (λ o. IsFirstFailure run.tables.channels (FailsAsLine run es row o) (Some line.at)) (sym is)
+    (subst (λ b. IsFirstFailure run.tables.channels (At line.at (list_any (tells_right run row line) es))
+    (if b then None else Some line.at)) (none_right run row es line c.in_default-called.ensures)
+    (at_test run.tables.channels line.at (list_any (tells_right run row line) es)))
+
+pub take-requires-clause-entry : goal.take-requires-clause-entry
+take-requires-clause-entry c =
+    listed_among c.args.run.now.tables c.args.entries.now c.requires.listed c.index-entries-place.result
+    (c.in-Some-called.place, c.in-Some-called.ensures.0, sym c.index-entries-place.is)
+
+pub returns : goal.returns
+returns c =
+    let run = c.args.run.now in
+    let es = c.args.entries.now in
+    let row = c.args.row.now in
+    let line = c.in-Some.line in
+    let place = c.in-Some-called.place in
+    let named = c.in-Some-called.ensures in
+    let l = c.index-entries-place.result in
+    let is : calendar_line row ≡ Some line = sym c.calendar_line.ensures ∙ c.in-Some.is in
+    let holds : list_any (tells_right run row line) es ≡ c.in_ok-right.right =
+    one_right run row es line c.requires.listed place named.0 named.1 l
+    ∙ ap (tells_right run row line) (sym c.index-entries-place.is) ∙ sym c.in_ok-right.ensures.right in
+    record {
+      long = length-set c.args.told.now.items place c.take.new.self ∙ c.requires.long;
+      told = λ lines before.
+          one_more run row es line c.requires.listed place named.0 named.1 lines c.args.told.now.items c.take.new.self
+          c.index_mut.result.now l is (c.in_ok-right.ensures.told
+          ∙ ap₂ (λ l t. told_more run l row t) c.index-entries-place.is c.index_mut.ensures.value) before;
+      first = subst (λ o. IsFirstFailure run.tables.channels (FailsAsLine run es row o) c.unless.result) (sym is)
+          (rw c.unless.ensures
+          (subst (λ b. IsFirstFailure run.tables.channels (At line.at (list_any (tells_right run row line) es))
+          (if b then None else Some line.at)) holds
+          (at_test run.tables.channels line.at (list_any (tells_right run row line) es))));
+    }

@@ -1,0 +1,82 @@
+-- Reading a report line by line, and at places.
+use Rattle.std.proofs.Common.{◌≡◌, ℕ, ◌+◌, ◌<◌, ◌≤◌, List, [], ◌∷◌, ◌++◌, length, take, drop, get_or, Option, Some, None, option_map, option_to_list, refl, ap, ◌∙◌, arith, add-one, length-append}
+use Rattle.std.specs.List.{cons_option}
+use Rattle.std.proofs.Math.Seq.{take-suc}
+use Rattle.std.proofs.lemmas.List.{take_all}
+use Rattle.std.proofs.lemmas.List.Elements.{filter_map-append}
+use Rattle.us_output.specs.declared.rows.Row.{Row}
+use Rattle.us_lawful.specs.Reports.{BeginsNoLine, IsFirstBad, IsLineAt, IsReport}
+use Rattle.us_lawful.specs.ReportReaders.{row_at}
+use Rattle.us_lawful.proofs.ReportLemmas.{Read, less_left, read_bad, read_more, read_nothing, read_whole}
+use Rattle.us_lawful.proofs.ReportLineLemmas.{row_again, row_found}
+use Rattle.us_check.specs.declared.judging.Standing.{Standing}
+use Rattle.us_check.specs.Judges.{line_there, lines_there}
+
+-- so many lines were read up to a place, and this is so of them
+pub record IsReadTo (Is : List Row → Type 0) (report : List ℕ) (number at : ℕ) : Type 0 where
+  pub lines : List Row
+  pub count : number ≡ length lines
+  pub few : number ≤ at
+  pub read : Read report lines (drop at report)
+  pub is : Is lines
+
+pub read_start : (Is : List Row → Type 0) (report : List ℕ) → Is [] → IsReadTo Is report 0 0
+read_start Is report is =
+    record { lines = []; count = refl; few = omega arith; read = read_nothing report; is = is }
+
+pub read_on : (Is Next : List Row → Type 0) (report : List ℕ) (number at : ℕ) (row : Row) (next : ℕ) →
+    IsReadTo Is report number at → IsLineAt report at row next → at < length report →
+    ((lines : List Row) → Is lines → Next (lines ++ row ∷ [])) → IsReadTo Next report (number + 1) next
+read_on Is Next report number at row next to line within more = record {
+  lines = to.lines ++ row ∷ [];
+  count = omega (arith, to.count, length-append to.lines (row ∷ []));
+  few = omega (arith, to.few, less_left report at next row line within);
+  read = read_more report at next to.lines row to.read line;
+  is = more to.lines to.is;
+}
+
+pub read_fault : (Is : List Row → Type 0) (report : List ℕ) (number at : ℕ) → IsReadTo Is report number at →
+    at < length report → BeginsNoLine (drop at report) → IsFirstBad report (number + 1)
+read_fault Is report number at to within none = read_bad report at to.lines number to.read to.count within none
+
+pub read_all : (Is : List Row → Type 0) (report : List ℕ) (number at : ℕ) → IsReadTo Is report number at →
+    length report ≤ at → (lines : List Row) × IsReport report lines × Is lines
+read_all Is report number at to past = (to.lines, read_whole report at to.lines to.read past, to.is)
+
+-- Lines at places.
+
+pub line_none : (report : List ℕ) (at : ℕ) → BeginsNoLine (drop at report) → line_there report at ≡ None
+line_none report at none = by (row_at (drop at report)) refl
+  where
+    by : (o : Option (Row × List ℕ)) → row_at (drop at report) ≡ o → option_map (λ (found : Row × List ℕ). found.0) o ≡ None
+    by None is = refl
+    by (Some x) is =
+        let told = row_found (drop at report) x is in
+        absurd (none x.0 x.1 told.0 told.1)
+
+pub line_some : (report : List ℕ) (at : ℕ) (row : Row) (next : ℕ) → IsLineAt report at row next →
+    line_there report at ≡ Some row
+line_some report at row next line =
+    ap (option_map (λ (found : Row × List ℕ). found.0)) (ap row_at line.spelled ∙ row_again row (drop next report) line.is)
+
+one_kept : {X : Type 0} (o : Option X) → cons_option o [] ≡ option_to_list o
+one_kept None = refl
+one_kept (Some x) = refl
+
+pub there_behind : (report : List ℕ) (standings : List Standing) (s : Standing) →
+    lines_there report (standings ++ s ∷ []) ≡ lines_there report standings ++ option_to_list (line_there report s.at)
+there_behind report standings s =
+    filter_map-append (λ s. line_there report s.at) standings (s ∷ [])
+    ∙ ap (λ more. lines_there report standings ++ more) (one_kept (line_there report s.at))
+
+pub there_more : (report : List ℕ) (standings : List Standing) (i : ℕ) (d : Standing) → i < length standings →
+    lines_there report (take (i + 1) standings)
+    ≡ lines_there report (take i standings) ++ option_to_list (line_there report (get_or standings i d).at)
+there_more report standings i d inside =
+    let more : take (i + 1) standings ≡ take i standings ++ get_or standings i d ∷ [] =
+    rw add-one (take-suc standings i d inside) in
+    ap (lines_there report) more ∙ there_behind report (take i standings) (get_or standings i d)
+
+pub there_all : (report : List ℕ) (standings : List Standing) (i : ℕ) → length standings ≤ i →
+    lines_there report (take i standings) ≡ lines_there report standings
+there_all report standings i past = ap (lines_there report) (take_all i standings past)

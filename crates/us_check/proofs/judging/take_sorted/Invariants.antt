@@ -1,0 +1,8 @@
+use Rattle.std.proofs.Common.{List, [], take}
+use Rattle.us_lawful.specs.declared.judged.RoundMap.{RoundMap}
+use Rattle.us_check.specs.Judges.{AreTold, lines_there}
+use Rattle.us_check.proofs.judging.take_sorted.Given as goal
+
+abbrev pub invariant-loop-standing : goal.invariant-loop-standing
+invariant-loop-standing l = (ms : List RoundMap) → AreTold l.config l.trace l.maps ms [] l.fn.judge →
+    AreTold l.config l.trace l.maps ms (lines_there l.report (take l.standing-index l.standings)) l.judge
