@@ -7,11 +7,11 @@ use Rattle.std.proofs.lemmas.Nat.{div-add-mod', div-mul-add, le-div, mod-mul-add
 use Rattle.us_flows.specs.declared.channels.Channel.{Channel}
 use Rattle.us_calendar.specs.Entries.{Entry}
 use Rattle.us_calendar.specs.Occurrences.{ideal, window_end}
-use Rattle.us_lawful.specs.declared.place.Place.{Place}
+use Rattle.us_reports.specs.declared.place.Place.{Place}
 use Rattle.us_lawful.specs.Runs.{Run}
 use Rattle.us_lawful.specs.CalendarLines.{ChannelEntry, closes, closing_round, round_quarters, speaks_in}
-use Rattle.us_breaches.specs.Order.{goes_before}
-use Rattle.us_breaches.specs.Breaches.{IsFirstFailure}
+use Rattle.us_reports.specs.Order.{goes_before}
+use Rattle.us_reports.specs.Breaches.{IsFirstFailure}
 use Rattle.us_calendar_rules.specs.Failures.{ClosingFails, IsDue, IsFirstWrong, comes_in}
 
 -- Quotients don't fall,

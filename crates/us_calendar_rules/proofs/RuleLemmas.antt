@@ -13,14 +13,14 @@ use Rattle.us_flows.proofs.SidLemmas.{list_any-same}
 use Rattle.us_calendar.specs.Entries.{IsEntry}
 use Rattle.us_calendar.specs.Occurrences.{ideal, window_end}
 use Rattle.us_output.specs.declared.rows.Row.{Row}
-use Rattle.us_lawful.specs.declared.place.Place.{Place}
+use Rattle.us_reports.specs.declared.place.Place.{Place}
 use Rattle.us_lawful.specs.Runs.{Run, Judged}
 use Rattle.us_lawful.specs.CalendarLines.{ChannelEntry, calendar_lines_hold, channel_entries, closes, closing_in, closing_round, closings_hold, is_calendar_line_at, is_entry_at, is_right_line, is_there, is_word, names, round_quarters, tells_one_of, times, told_lines_hold}
-use Rattle.us_breaches.specs.Order.{earlier}
-use Rattle.us_breaches.specs.Breaches.{Any, At, Either, IsFirstBreach, IsFirstFailure}
-use Rattle.us_breaches.proofs.AnyLemmas.{any_at, any_filter, any_filter_map, any_of_all}
-use Rattle.us_breaches.proofs.BreachLemmas.{and_of_either, at_there, either_of_and, holds_first, joined, same_places}
-use Rattle.us_breaches.proofs.OrderLemmas.{place-is}
+use Rattle.us_reports.specs.Order.{earlier}
+use Rattle.us_reports.specs.Breaches.{Any, At, Either, IsFirstBreach, IsFirstFailure}
+use Rattle.us_reports.proofs.AnyLemmas.{any_at, any_filter, any_filter_map, any_of_all}
+use Rattle.us_reports.proofs.BreachLemmas.{and_of_either, at_there, either_of_and, holds_first, joined, same_places}
+use Rattle.us_reports.proofs.OrderLemmas.{place-is}
 use Rattle.us_calendar_rules.specs.declared.naming.CalendarLine.{CalendarLine}
 use Rattle.us_calendar_rules.specs.declared.told.OpenLine.{OpenLine}
 use Rattle.us_calendar_rules.specs.Listed.{AreListed, is_called}

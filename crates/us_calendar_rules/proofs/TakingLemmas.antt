@@ -17,8 +17,9 @@ use Rattle.us_output.specs.declared.rows.Row.{Row}
 use Rattle.us_output.specs.declared.rows.Row.TheVariants as rows
 use Rattle.us_lawful.proofs.NameLemmas.{no_request}
 use Rattle.us_lawful.specs.CalendarLines.{ChannelEntry, closes, is_right_line, is_calendar_line_at, is_named, is_there, is_word, names, number_of, round_quarters, speaks_in}
-use Rattle.us_lawful.specs.Runs.{Run, is_requested}
-use Rattle.us_lawful.specs.declared.place.Place.{Place}
+use Rattle.us_lawful.specs.Runs.{Run}
+use Rattle.us_reports.specs.Rows.{is_requested}
+use Rattle.us_reports.specs.declared.place.Place.{Place}
 use Rattle.us_calendar_rules.specs.Listed.{AreListed, is_called}
 use Rattle.us_calendar_rules.specs.Naming.{calendar_line, is_of_there, number_in, number_told, tells, tells_right}
 use Rattle.us_calendar_rules.specs.Told.{ToldEntry, nothing, told_number, open_line_of, open_told, told_more, told_of}

@@ -3,10 +3,10 @@ use Rattle.std.specs.Prelude.{◌≡◌, ℕ, ◌<◌, ◌≤◌, ◌==◌, nat_
 use Rattle.std.specs.List.{list_any}
 use Rattle.us_calendar.specs.Occurrences.{comes}
 use Rattle.us_output.specs.declared.rows.Row.{Row}
-use Rattle.us_lawful.specs.declared.place.Place.{Place}
+use Rattle.us_reports.specs.declared.place.Place.{Place}
 use Rattle.us_lawful.specs.Runs.{Run}
 use Rattle.us_lawful.specs.CalendarLines.{ChannelEntry, closes, closing_round, speaks_in}
-use Rattle.us_breaches.specs.Breaches.{At}
+use Rattle.us_reports.specs.Breaches.{At}
 use Rattle.us_calendar_rules.specs.declared.naming.CalendarLine.{CalendarLine}
 use Rattle.us_calendar_rules.specs.declared.told.OpenLine.{OpenLine}
 use Rattle.us_calendar_rules.specs.Naming.{calendar_line, tells_right}

@@ -2,7 +2,8 @@
 use Rattle.std.specs.Prelude.{ℕ, ◌+◌, ◌*◌, ◌^◌, nat_lt, ◌&&◌, Bool, if◌then◌else◌, Option, Some, None}
 use Rattle.us_output.specs.declared.rows.Row.{Row}
 use Rattle.us_output.specs.declared.rows.Row.TheVariants as rows
-use Rattle.us_lawful.specs.Runs.{Run, is_requested}
+use Rattle.us_lawful.specs.Runs.{Run}
+use Rattle.us_reports.specs.Rows.{is_requested}
 use Rattle.us_lawful.specs.CalendarLines.{ChannelEntry, is_right_line, is_there}
 use Rattle.us_calendar.specs.Entries.{Entry}
 use Rattle.us_calendar_rules.specs.declared.naming.CalendarLine.{CalendarLine}

@@ -2,10 +2,10 @@
 use Rattle.std.specs.Prelude.{◌≡◌, ℕ, not, ◌&&◌, if◌then◌else◌, List, [], ◌++◌, map, filter_map, Option, Some, None, option_and_then}
 use Rattle.std.specs.Option.{option_to_list}
 use Rattle.us_output.specs.declared.rows.Row.{Row}
-use Rattle.us_lawful.specs.declared.place.Place.{Place}
+use Rattle.us_reports.specs.declared.place.Place.{Place}
 use Rattle.us_lawful.specs.Runs.{Run}
 use Rattle.us_lawful.specs.CalendarLines.{ChannelEntry, closes}
-use Rattle.us_breaches.specs.Breaches.{Any, Either, IsFirstFailure}
+use Rattle.us_reports.specs.Breaches.{Any, Either, IsFirstFailure}
 use Rattle.us_calendar_rules.specs.declared.naming.CalendarLine.{CalendarLine}
 use Rattle.us_calendar_rules.specs.declared.told.OpenLine.{OpenLine}
 use Rattle.us_calendar_rules.specs.Naming.{calendar_line, number_in, number_told, tells_right}

@@ -1,7 +1,7 @@
 ghost use Rattle.std.specs.Prelude.{◌≡◌, ◌+◌, ◌^◌, ◌<◌, ◌≤◌, true, nat_le, All, Contains, if◌then◌else◌};
 ghost use Rattle.std.specs.List.Sorted.{IsNonDecreasing, IsPermutation};
 ghost use Rattle.us_lawful.specs.CalendarLines.{channel_entries};
-ghost use Rattle.us_breaches.specs.Breaches.{Any, IsFirstFailure};
+ghost use Rattle.us_reports.specs.Breaches.{Any, IsFirstFailure};
 ghost use Rattle.us_calendar_rules.specs.Failures.{times_in};
 ghost use Rattle.us_calendar_rules.specs.Failures as spec;
 
@@ -9,8 +9,7 @@ use crate::listed::ChannelEntry;
 use crate::runs::JudgedRun;
 use crate::told::OpenLine;
 use crate::windows::{closing, ideal};
-use us_breaches::earlier;
-use us_lawful::Place;
+use us_reports::{Place, earlier};
 
 /// Puts numbers in order. Lines mostly tell them so.
 pub(crate) fn put_in_order(numbers: &mut Vec<u64>)

@@ -6,7 +6,7 @@ ghost use Rattle.us_calendar_rules.specs.Naming as spec;
 use crate::listed::ChannelEntry;
 use crate::runs::JudgedRun;
 use crate::windows::{begins, ideal};
-use us_lawful::Place;
+use us_reports::Place;
 use us_round::{EntryWord, Row};
 
 /// A line of a calendar, and what it names.

@@ -1,6 +1,6 @@
 ghost use Rattle.std.specs.Prelude.{◌≡◌, Some, true, All, Contains, IfOk, OnOk};
 ghost use Rattle.us_lawful.specs.CalendarLines.{channel_entries};
-ghost use Rattle.us_breaches.specs.Breaches.{IsFirstFailure};
+ghost use Rattle.us_reports.specs.Breaches.{IsFirstFailure};
 ghost use Rattle.us_calendar_rules.specs.Listed.{is_called};
 ghost use Rattle.us_calendar_rules.specs.Naming as naming;
 ghost use Rattle.us_calendar_rules.specs.Failures.{comes_in};
@@ -13,8 +13,7 @@ use crate::runs::JudgedRun;
 use crate::windows::{closing, is_right};
 use std::alloc::{AllocError, Global};
 use std::marker::Model;
-use us_breaches::earlier;
-use us_lawful::Place;
+use us_reports::{Place, earlier};
 use us_round::Row;
 
 /// A line that is right for an occurrence that is still open as the run ends.

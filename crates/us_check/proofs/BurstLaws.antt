@@ -21,15 +21,16 @@ use Rattle.us_flows.specs.Clusters.{Cluster, Turn, table_order, has_sid}
 use Rattle.us_output.specs.declared.rows.Grant.{Grant}
 use Rattle.us_output.specs.declared.rows.Row.{Row}
 use Rattle.us_output.specs.declared.rows.Row.TheVariants as rows
-use Rattle.us_lawful.specs.declared.place.Place.{Place}
+use Rattle.us_reports.specs.declared.place.Place.{Place}
 use Rattle.us_lawful.specs.declared.judged.RoundMap.{RoundMap}
-use Rattle.us_lawful.specs.Runs.{Run, Judged, grants_in, is_requested, requested_in}
+use Rattle.us_lawful.specs.Runs.{Run, Judged, grants_in, requested_in}
+use Rattle.us_reports.specs.Rows.{is_requested}
 use Rattle.us_lawful.specs.Headings.{Heading, heading_of, heading_told, null_offset}
 use Rattle.us_lawful.specs.Places.{is_told_at, has_place, places_hold}
 use Rattle.us_lawful.specs.Regions.{Region, covers, element_regions, end_holds, end_of, grant_regions, holder_count, inside_holds, is_free, is_gap, is_right_element, is_same, map_regions, minislot_holds, none_empty_at, region_of, regions_of, reserve_regions}
 use Rattle.us_lawful.specs.Credits.{credit_lines_hold, credits_hold, has_cost, is_credit_at, is_like, is_of, is_right_credit, is_right_for, sums_hold}
 use Rattle.us_lawful.specs.Lawful.{IsRoundMap}
-use Rattle.us_breaches.specs.Order.{place_of}
+use Rattle.us_reports.specs.Order.{place_of}
 use Rattle.us_map_rules.specs.Pieces.{piece_of}
 use Rattle.us_map_rules.proofs.HeadingLemmas.{told_there}
 use Rattle.us_map_rules.proofs.TableLemmas.{IsFound, found_channel, lacks}

@@ -6,11 +6,11 @@ use Rattle.us_flows.specs.Tables.{Tables}
 use Rattle.us_requests.specs.Traces.{TraceAsks}
 use Rattle.us_output.specs.declared.rows.Row.{Row}
 use Rattle.us_lawful.specs.declared.judged.RoundMap.{RoundMap}
-use Rattle.us_lawful.specs.declared.place.Place.{Place}
+use Rattle.us_reports.specs.declared.place.Place.{Place}
 use Rattle.us_lawful.specs.Runs.{Run, Judged, run_in}
-use Rattle.us_breaches.specs.Breaches.{IsFirstBreach, IsFirstFailure}
-use Rattle.us_breaches.specs.Order.{earlier, goes_before}
-use Rattle.us_breaches.proofs.BreachLemmas.{one_behind}
+use Rattle.us_reports.specs.Breaches.{IsFirstBreach, IsFirstFailure}
+use Rattle.us_reports.specs.Order.{earlier, goes_before}
+use Rattle.us_reports.proofs.BreachLemmas.{one_behind}
 use Rattle.us_map_rules.specs.LackedPlaces.{IsOfLackedPlace}
 use Rattle.us_check.specs.declared.judges.Judge.{Judge}
 use Rattle.us_check.specs.Judges.{AllAreTold, AreTold}

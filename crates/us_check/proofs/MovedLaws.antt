@@ -11,8 +11,9 @@ use Rattle.us_calendar.specs.Entries.{Entry, WordedFlow}
 use Rattle.us_output.specs.declared.rows.Grant.{Grant}
 use Rattle.us_output.specs.declared.rows.Row.{Row}
 use Rattle.us_lawful.specs.declared.judged.RoundMap.{RoundMap}
-use Rattle.us_lawful.specs.declared.place.Place.{Place}
-use Rattle.us_lawful.specs.Runs.{Run, Judged, activities_in, as_activity, as_counts, as_final, as_grant, counts_in, counts_told, finals_in, grants_in, is_requested, requested_in}
+use Rattle.us_reports.specs.declared.place.Place.{Place}
+use Rattle.us_lawful.specs.Runs.{Run, Judged, activities_in, as_activity, as_counts, as_final, as_grant, counts_in, counts_told, finals_in, grants_in, requested_in}
+use Rattle.us_reports.specs.Rows.{is_requested}
 use Rattle.us_lawful.specs.Places.{is_told_at, places_hold}
 use Rattle.us_lawful.specs.Regions.{channel_holds, grant_regions, region_of, regions_hold, regions_of, reserve_regions}
 use Rattle.us_lawful.specs.CalendarLines.{ChannelEntry, calendar_lines_hold, channel_entries, closings_hold, is_calendar_line_at, names, number_of, tells_one_of, times, told_lines_hold}
@@ -21,7 +22,7 @@ use Rattle.us_lawful.specs.Credits.{credit_lines_hold, credited_in, credited_wit
 use Rattle.us_lawful.specs.Finals.{activities_hold, activity_holds, activity_of, counts_hold, final_holds, final_of, finals_hold, is_final_of, is_same_activity, is_same_counts, is_same_final, talking}
 use Rattle.us_lawful.proofs.RegionLemmas.{moved_holds}
 use Rattle.us_lawful.proofs.SameLemmas.{Same, same_all, same_any, same_append, same_count, same_filter, same_filter_map, same_map}
-use Rattle.us_breaches.proofs.AnyLemmas.{any_each}
+use Rattle.us_reports.proofs.AnyLemmas.{any_each}
 use Rattle.us_check.specs.declared.rules.Breach.{Breach}
 use Rattle.us_check.specs.Verdicts.{Activities, CalendarLines, Counts, Credits, Finals, Headings, Holds, HoldsAll, IsAnswer, IsPartBroken, Part, Places, Rates, Regions, order_of, parts, rule_of}
 

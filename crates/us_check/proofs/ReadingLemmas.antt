@@ -5,10 +5,10 @@ use Rattle.std.proofs.Math.Seq.{take-suc}
 use Rattle.std.proofs.lemmas.List.{take_all}
 use Rattle.std.proofs.lemmas.List.Elements.{filter_map-append}
 use Rattle.us_output.specs.declared.rows.Row.{Row}
-use Rattle.us_lawful.specs.Reports.{BeginsNoLine, IsFirstBad, IsLineAt, IsReport}
-use Rattle.us_lawful.specs.ReportReaders.{row_at}
-use Rattle.us_lawful.proofs.ReportLemmas.{Read, less_left, read_bad, read_more, read_nothing, read_whole}
-use Rattle.us_lawful.proofs.ReportLineLemmas.{row_again, row_found}
+use Rattle.us_reports.specs.Reports.{BeginsNoLine, IsFirstBad, IsLineAt, IsReport}
+use Rattle.us_reports.specs.ReportReaders.{row_at}
+use Rattle.us_reports.proofs.ReportLemmas.{Read, less_left, read_bad, read_more, read_nothing, read_whole}
+use Rattle.us_reports.proofs.ReportLineLemmas.{row_again, row_found}
 use Rattle.us_check.specs.declared.judging.Standing.{Standing}
 use Rattle.us_check.specs.Judges.{line_there, lines_there}
 

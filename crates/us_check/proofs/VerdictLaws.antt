@@ -5,16 +5,16 @@ use Rattle.std.specs.List.{AllByRecursion}
 use Rattle.std.proofs.lemmas.Bool.{cases_Bool, cases_lt}
 use Rattle.us_output.specs.declared.rows.Row.{Row}
 use Rattle.us_lawful.specs.declared.judged.RoundMap.{RoundMap}
-use Rattle.us_lawful.specs.declared.place.Place.{Place}
+use Rattle.us_reports.specs.declared.place.Place.{Place}
 use Rattle.us_lawful.specs.Runs.{Run, Judged}
 use Rattle.us_lawful.specs.Lawful.{IsLawful}
 use Rattle.us_lawful.specs.Texts.{AreLawful}
-use Rattle.us_lawful.specs.Reports.{IsReport, IsFirstBad}
-use Rattle.us_lawful.proofs.ReportLemmas.{one_reading}
-use Rattle.us_breaches.specs.Breaches.{IsFirstBreach}
-use Rattle.us_breaches.specs.Order.{goes_before}
-use Rattle.us_breaches.proofs.AnyLemmas.{any_where}
-use Rattle.us_breaches.proofs.OrderLemmas.{before-equal}
+use Rattle.us_reports.specs.Reports.{IsReport, IsFirstBad}
+use Rattle.us_reports.proofs.ReportLemmas.{one_reading}
+use Rattle.us_reports.specs.Breaches.{IsFirstBreach}
+use Rattle.us_reports.specs.Order.{goes_before}
+use Rattle.us_reports.proofs.AnyLemmas.{any_where}
+use Rattle.us_reports.proofs.OrderLemmas.{before-equal}
 use Rattle.us_map_rules.specs.MapsReading.{IsMapsOf, IsFirstBadRecord, OneReadingOfMaps}
 use Rattle.us_check.specs.declared.rules.Breach.{Breach}
 use Rattle.us_check.specs.declared.rules.Rule.{Rule}

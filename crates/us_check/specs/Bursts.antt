@@ -8,7 +8,7 @@ use Rattle.us_flows.specs.Lawful.{AreTables, IsChannel}
 use Rattle.us_flows.specs.Clusters.{table_order}
 use Rattle.us_split.specs.Plans.{max_burst_bytes}
 use Rattle.us_output.specs.declared.rows.Grant.{Grant}
-use Rattle.us_lawful.specs.declared.place.Place.{Place}
+use Rattle.us_reports.specs.declared.place.Place.{Place}
 use Rattle.us_lawful.specs.Runs.{Run, Judged, requested_in}
 use Rattle.us_lawful.specs.Headings.{HeadingsHold}
 use Rattle.us_lawful.specs.Places.{places_hold}

@@ -1,8 +1,8 @@
 -- What faults of the checker are told as.
 use Rattle.std.specs.Prelude.{ℕ, List, ◌++◌, codes}
 use Rattle.std.specs.Fmt.{decimal}
-use Rattle.us_lawful.specs.declared.report_faults.ReportFault.{ReportFault}
-use Rattle.us_lawful.specs.declared.report_faults.ReportFault.TheVariants as report
+use Rattle.us_reports.specs.declared.report_faults.ReportFault.{ReportFault}
+use Rattle.us_reports.specs.declared.report_faults.ReportFault.TheVariants as report
 use Rattle.us_check.specs.declared.faults.CheckFault.{CheckFault}
 use Rattle.us_check.specs.declared.faults.CheckFault.TheVariants as fault
 

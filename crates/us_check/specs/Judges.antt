@@ -7,9 +7,9 @@ use Rattle.us_output.specs.declared.rows.Row.{Row}
 use Rattle.us_lawful.specs.declared.judged.RoundMap.{RoundMap}
 use Rattle.us_lawful.specs.Runs.{Run, run_in}
 use Rattle.us_lawful.specs.Headings.{HeadingsHold}
-use Rattle.us_lawful.specs.Reports.{IsReport, IsFirstBad}
-use Rattle.us_lawful.specs.ReportReaders.{row_at}
-use Rattle.us_breaches.specs.Breaches.{Any, IsFirstBreach, IsFirstFailure}
+use Rattle.us_reports.specs.Reports.{IsReport, IsFirstBad}
+use Rattle.us_reports.specs.ReportReaders.{row_at}
+use Rattle.us_reports.specs.Breaches.{Any, IsFirstBreach, IsFirstFailure}
 use Rattle.us_map_rules.specs.MapsReading.{IsMapsOf}
 use Rattle.us_map_rules.specs.LackedPlaces.{IsOfLackedPlace}
 use Rattle.us_map_rules.specs.Gathered as regions

@@ -1,9 +1,9 @@
 -- What a verdict names, by the numbers of rules: it fails there and holds before, part by part, and those of a lower
 -- number hold.
 use Rattle.std.specs.Prelude.{◌≡◌, ◌≢◌, ℕ, ◌<◌, true, List, Ok}
-use Rattle.us_lawful.specs.declared.place.Place.{Place}
+use Rattle.us_reports.specs.declared.place.Place.{Place}
 use Rattle.us_lawful.specs.Runs.{Run, Judged}
-use Rattle.us_breaches.specs.Order.{goes_before}
+use Rattle.us_reports.specs.Order.{goes_before}
 use Rattle.us_check.specs.declared.rules.Rule.{Rule}
 use Rattle.us_check.specs.declared.rules.Rule.TheVariants as rules
 use Rattle.us_check.specs.declared.verdicts.Verdict.TheVariants as verdicts

@@ -3,7 +3,7 @@ use Rattle.std.specs.Prelude.{◌≡◌, ℕ, true, List, [], ◌∷◌, ◌++�
 use Rattle.std.specs.List.{AllByRecursion}
 use Rattle.std.specs.Fmt.{decimal}
 use Rattle.us_output.specs.declared.rows.Row.{Row}
-use Rattle.us_lawful.specs.declared.place.Place.{Place}
+use Rattle.us_reports.specs.declared.place.Place.{Place}
 use Rattle.us_lawful.specs.Runs.{Run, Judged}
 use Rattle.us_lawful.specs.Headings.{HeadingsHold}
 use Rattle.us_lawful.specs.Places.{places_hold}
@@ -13,8 +13,8 @@ use Rattle.us_lawful.specs.Rates.{rates_hold}
 use Rattle.us_lawful.specs.Credits.{credits_hold}
 use Rattle.us_lawful.specs.Finals.{finals_hold, activities_hold, counts_hold}
 use Rattle.us_lawful.specs.Texts.{AreLawful}
-use Rattle.us_lawful.specs.Reports.{IsReport, IsFirstBad}
-use Rattle.us_breaches.specs.Breaches.{Any, IsFirstBreach}
+use Rattle.us_reports.specs.Reports.{IsReport, IsFirstBad}
+use Rattle.us_reports.specs.Breaches.{Any, IsFirstBreach}
 use Rattle.us_map_rules.specs.MapsReading.{IsMapsOf, IsFirstBadRecord}
 use Rattle.us_check.specs.declared.rules.Breach.{Breach}
 use Rattle.us_check.specs.declared.rules.Rule.{Rule}

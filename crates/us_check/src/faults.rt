@@ -4,7 +4,7 @@ ghost use Rattle.us_check.specs.Faults as spec;
 use std::alloc::AllocFailed;
 use std::fmt;
 use thiserror::Error;
-use us_lawful::ReportFault;
+use us_reports::ReportFault;
 use us_slots::NoMemory;
 
 /// Why there is no verdict.

@@ -5,21 +5,20 @@ ghost use Rattle.us_output.specs.declared.rows.Row.{Row as ReportRow};
 ghost use Rattle.us_lawful.specs.declared.judged.RoundMap.{RoundMap};
 ghost use Rattle.us_lawful.specs.Runs.{run_in};
 ghost use Rattle.us_lawful.specs.Headings.{HeadingsHold};
-ghost use Rattle.us_breaches.specs.Breaches.{IsFirstBreach};
+ghost use Rattle.us_reports.specs.Breaches.{IsFirstBreach};
 ghost use Rattle.us_map_rules.specs.MapsReading.{IsMapsOf};
 ghost use Rattle.us_check.specs.Judges as spec;
 ghost use Rattle.us_check.specs.Verdicts.{IsAnswer};
 
 use crate::rules::Rule;
 use std::alloc::Global;
-use us_breaches::earlier;
 use us_calendar_rules::CalendarLines;
 use us_credit_rules::{
     CreditLines, activities_breach, counts_breach, credits_breach, finals_breach, rates_breach,
 };
 use us_flows::Config;
-use us_lawful::Place;
 use us_map_rules::{MapRegions, lacked_place};
+use us_reports::{Place, earlier};
 use us_requests::Trace;
 use us_round::Row;
 use us_slots::NoMemory;

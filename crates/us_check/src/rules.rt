@@ -1,7 +1,7 @@
 ghost use Rattle.std.specs.Prelude.{◌≡◌};
 ghost use Rattle.us_check.specs.Verdicts as spec;
 
-use us_lawful::Place;
+use us_reports::Place;
 
 /// A rule of the checker. They are looked at in this order.
 #[derive(Clone, Copy, Debug, PartialEq, Eq)]

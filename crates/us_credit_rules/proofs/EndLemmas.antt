@@ -4,11 +4,11 @@ use Rattle.std.specs.Prelude.{◌&&◌, if◌then◌else◌}
 use Rattle.std.specs.List.{list_all}
 use Rattle.std.proofs.lemmas.Bool.{and_cases, and_left, and_parts, and_right, cases_Bool, cases_eq, eqb-true, false≢true}
 use Rattle.us_flows.specs.declared.channels.Channel.{Channel}
-use Rattle.us_lawful.specs.declared.place.Place.{Place}
-use Rattle.us_breaches.specs.Order.{earlier}
-use Rattle.us_breaches.specs.Breaches.{Any, At, Either, IsFirstBreach, IsFirstFailure}
-use Rattle.us_breaches.proofs.BreachLemmas.{holds_first, joined, same_places}
-use Rattle.us_breaches.proofs.AnyLemmas.{any_each, any_of_all}
+use Rattle.us_reports.specs.declared.place.Place.{Place}
+use Rattle.us_reports.specs.Order.{earlier}
+use Rattle.us_reports.specs.Breaches.{Any, At, Either, IsFirstBreach, IsFirstFailure}
+use Rattle.us_reports.proofs.BreachLemmas.{holds_first, joined, same_places}
+use Rattle.us_reports.proofs.AnyLemmas.{any_each, any_of_all}
 use Rattle.us_credit_rules.specs.Ends.{end_place}
 
 module _ {X : Type 0} (id : X → ℕ) (holds : X → Bool) (rounds : ℕ) where

@@ -12,7 +12,8 @@ use Rattle.us_output.proofs.PartLemmas.{all_found}
 use Rattle.us_output.specs.declared.rows.FinalState.{FinalState}
 use Rattle.us_output.specs.declared.rows.Grant.{Grant}
 use Rattle.us_output.specs.declared.rows.Row.{Row}
-use Rattle.us_lawful.specs.Runs.{activities_in, as_activity, as_counts, as_final, as_grant, counts_in, finals_in, grants_in, is_requested, requested_in, run_in}
+use Rattle.us_lawful.specs.Runs.{activities_in, as_activity, as_counts, as_final, as_grant, counts_in, finals_in, grants_in, requested_in, run_in}
+use Rattle.us_reports.specs.Rows.{is_requested}
 use Rattle.us_lawful.specs.Credits.{asked_within, credited_within, sum_holds}
 use Rattle.us_lawful.proofs.SameLemmas.{Same, same_filter, same_filter_map, same_moved}
 use Rattle.us_credit_rules.specs.declared.buckets.FlowAccount.{FlowAccount}

@@ -13,14 +13,14 @@ use Rattle.us_requests.specs.Traces.{IsTrace, TraceAsks}
 use Rattle.us_output.specs.declared.rows.FinalState.{FinalState}
 use Rattle.us_output.specs.declared.rows.Row.{Row}
 use Rattle.us_output.proofs.PartLemmas.{all_found}
-use Rattle.us_lawful.specs.declared.place.Place.{Place}
+use Rattle.us_reports.specs.declared.place.Place.{Place}
 use Rattle.us_lawful.specs.Runs.{Judged, as_final, finals_in, run_in, activities_in, as_activity, as_counts, counts_in, counts_told}
 use Rattle.us_lawful.specs.Finals.{final_holds, final_of, finals_hold, is_final_of, is_same_final, activities_hold, activity_holds, activity_of, is_same_activity, talking, counts_hold, is_same_counts}
 use Rattle.us_lawful.proofs.SameLemmas.{Same, same_all, same_any, same_count, same_filter_map, same_moved}
-use Rattle.us_breaches.specs.Order.{earlier}
-use Rattle.us_breaches.specs.Breaches.{Any, At, IsFirstBreach, IsFirstFailure}
-use Rattle.us_breaches.proofs.BreachLemmas.{same_places, at_test, holds_first}
-use Rattle.us_breaches.proofs.AnyLemmas.{any_each}
+use Rattle.us_reports.specs.Order.{earlier}
+use Rattle.us_reports.specs.Breaches.{Any, At, IsFirstBreach, IsFirstFailure}
+use Rattle.us_reports.proofs.BreachLemmas.{same_places, at_test, holds_first}
+use Rattle.us_reports.proofs.AnyLemmas.{any_each}
 use Rattle.us_credit_rules.specs.declared.credit_lines.CreditLines.{CreditLines}
 use Rattle.us_credit_rules.specs.declared.ledgers.Account.{Account}
 use Rattle.us_credit_rules.specs.declared.told.Told.TheVariants.{Nothing}
@@ -43,7 +43,7 @@ use Rattle.us_credit_rules.specs.Activities.{IsUntold, talker_at, wanted}
 use Rattle.std.proofs.lemmas.List.Sums.{sum_by-cons}
 use Rattle.us_flows.specs.declared.channels.Channel.{Channel}
 use Rattle.us_output.specs.declared.rows.TraceCounts.{TraceCounts}
-use Rattle.us_breaches.proofs.OrderLemmas.{place-is}
+use Rattle.us_reports.proofs.OrderLemmas.{place-is}
 
 -- F lines.
 

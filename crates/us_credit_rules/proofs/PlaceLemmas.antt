@@ -5,9 +5,9 @@ use Rattle.std.specs.List.{list_all}
 use Rattle.std.proofs.lemmas.Bool.{cases_lt, both_ways, and_parts, eqb-true, ltb-true, le-ltb, not-false, or_from, or_parts, or_right, and_right, and_cases}
 use Rattle.std.proofs.lemmas.Bool.Decides.{nat_tests}
 use Rattle.us_flows.specs.declared.channels.Channel.{Channel}
-use Rattle.us_lawful.specs.declared.place.Place.{Place}
-use Rattle.us_breaches.specs.Breaches.{IsFirstFailure, Any}
-use Rattle.us_breaches.proofs.BreachLemmas.{same_places}
+use Rattle.us_reports.specs.declared.place.Place.{Place}
+use Rattle.us_reports.specs.Breaches.{IsFirstFailure, Any}
+use Rattle.us_reports.proofs.BreachLemmas.{same_places}
 use Rattle.us_credit_rules.specs.Shorts.{IsFirstRound, flow_place}
 
 -- Tests of all items, where something else doesn't pass.

@@ -18,16 +18,16 @@ use Rattle.us_requests.specs.Traces.{TraceAsks}
 use Rattle.us_output.specs.declared.rows.Grant.{Grant}
 use Rattle.us_output.specs.declared.rows.Row.{Row}
 use Rattle.us_output.proofs.PartLemmas.{all_weaker}
-use Rattle.us_lawful.specs.declared.place.Place.{Place}
+use Rattle.us_reports.specs.declared.place.Place.{Place}
 use Rattle.us_lawful.specs.Runs.{requested_in, run_in}
 use Rattle.us_lawful.specs.Credits.{has_cost, is_like, is_right_credit, is_credit_at, credit_lines_hold}
 use Rattle.us_lawful.proofs.ItemLemmas.{IsFound, any_placed, find_some}
 use Rattle.us_lawful.proofs.CreditLineLaws.{counted_there, turn_listed}
 use Rattle.us_lawful.proofs.SameLemmas.{Same, same_all, same_count, sum_append}
-use Rattle.us_breaches.specs.Breaches.{At, Either, IsFirstFailure}
-use Rattle.us_breaches.specs.Order.{earlier}
-use Rattle.us_breaches.proofs.BreachLemmas.{any_append, append_any, at_test, at_there, joined, same_places}
-use Rattle.us_breaches.proofs.AnyLemmas.{any_at, any_each, any_of_all, any_where}
+use Rattle.us_reports.specs.Breaches.{At, Either, IsFirstFailure}
+use Rattle.us_reports.specs.Order.{earlier}
+use Rattle.us_reports.proofs.BreachLemmas.{any_append, append_any, at_test, at_there, joined, same_places}
+use Rattle.us_reports.proofs.AnyLemmas.{any_at, any_each, any_of_all, any_where}
 use Rattle.us_credit_rules.specs.Ends.{unless}
 use Rattle.us_credit_rules.specs.Seats.{is_number, names, place_of}
 use Rattle.us_credit_rules.specs.Repeats.{AreNoted, AreWrong, IsWrong, is_right_for, is_right_line, is_told, key_for, key_of, line_place, noted, wrong_place}

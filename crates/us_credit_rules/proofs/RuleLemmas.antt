@@ -11,11 +11,11 @@ use Rattle.us_flows.specs.Clusters.{makes_requests, Turn, table_order}
 use Rattle.us_flows.specs.Lawful.{AreTables, HasNoOthers, IsFlow}
 use Rattle.us_requests.specs.Traces.{TraceAsks}
 use Rattle.us_output.proofs.PartLemmas.{all_found}
-use Rattle.us_lawful.specs.declared.place.Place.{Place}
+use Rattle.us_reports.specs.declared.place.Place.{Place}
 use Rattle.us_lawful.specs.Runs.{Run, Judged, run_in}
 use Rattle.us_lawful.specs.Rates.{flow_credits, flow_rate_holds, rates_hold, span_holds}
-use Rattle.us_breaches.specs.Breaches.{IsFirstFailure, IsFirstBreach, Any}
-use Rattle.us_breaches.proofs.BreachLemmas.{holds_first}
+use Rattle.us_reports.specs.Breaches.{IsFirstFailure, IsFirstBreach, Any}
+use Rattle.us_reports.proofs.BreachLemmas.{holds_first}
 use Rattle.us_credit_rules.specs.declared.credit_lines.CreditLines.{CreditLines}
 use Rattle.us_credit_rules.specs.Buckets.{account_in, rate_place}
 use Rattle.us_credit_rules.specs.CreditLines.{AreCreditLines}

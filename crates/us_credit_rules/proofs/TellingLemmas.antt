@@ -8,9 +8,9 @@ use Rattle.std.proofs.lemmas.List.{append-nil, get_or-set_same, get_or-set_other
 use Rattle.std.proofs.lemmas.List.Elements.{filter-append}
 use Rattle.std.proofs.lemmas.List.Sums.{length-filter}
 use Rattle.us_flows.specs.declared.channels.Channel.{Channel}
-use Rattle.us_breaches.specs.Order.{earlier}
-use Rattle.us_breaches.specs.Breaches.{At}
-use Rattle.us_breaches.proofs.BreachLemmas.{at_test, one_behind}
+use Rattle.us_reports.specs.Order.{earlier}
+use Rattle.us_reports.specs.Breaches.{At}
+use Rattle.us_reports.proofs.BreachLemmas.{at_test, one_behind}
 use Rattle.us_credit_rules.specs.declared.told.Told.{Told}
 use Rattle.us_credit_rules.specs.declared.told.Told.TheVariants.{Nothing}
 use Rattle.us_credit_rules.specs.declared.told.Tellings.{Tellings}

@@ -8,10 +8,10 @@ use Rattle.us_requests.specs.Traces.{TraceAsks}
 use Rattle.us_activity.specs.Marks.{Marks, is_active}
 use Rattle.us_calendar.specs.Entries.{WordedFlow}
 use Rattle.us_output.specs.declared.rows.FinalActivity.{FinalActivity}
-use Rattle.us_lawful.specs.declared.place.Place.{Place}
+use Rattle.us_reports.specs.declared.place.Place.{Place}
 use Rattle.us_lawful.specs.Runs.{Run}
 use Rattle.us_lawful.specs.Finals.{activity_of, is_same_activity, talking}
-use Rattle.us_breaches.specs.Breaches.{At}
+use Rattle.us_reports.specs.Breaches.{At}
 use Rattle.us_credit_rules.specs.declared.talkers.Talker.{Talker}
 use Rattle.us_credit_rules.specs.declared.talkers.Talkers.{Talkers}
 use Rattle.us_credit_rules.specs.declared.told.Told.{Told}

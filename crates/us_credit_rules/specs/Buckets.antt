@@ -4,7 +4,7 @@ use Rattle.us_flows.specs.Tables.{FlowTable}
 use Rattle.us_flows.specs.Clusters.{Turn}
 use Rattle.us_bucket.specs.Levels.{Level, full, refilled, spent, bytes_in, units_in}
 use Rattle.us_output.specs.declared.rows.Grant.{Grant}
-use Rattle.us_lawful.specs.declared.place.Place.{Place}
+use Rattle.us_reports.specs.declared.place.Place.{Place}
 use Rattle.us_credit_rules.specs.declared.buckets.FlowAccount.{FlowAccount}
 use Rattle.us_credit_rules.specs.Seats.{place_of}
 use Rattle.us_credit_rules.specs.Shorts.{flow_place, short_then}

@@ -6,7 +6,8 @@ use Rattle.us_flows.specs.Clusters.{table_order}
 use Rattle.us_requests.specs.Traces.{TraceAsks}
 use Rattle.us_output.specs.declared.rows.Row.{Row}
 use Rattle.us_output.specs.declared.rows.Row.TheVariants as rows
-use Rattle.us_lawful.specs.Runs.{activities_in, counts_in, finals_in, is_requested, requested_in}
+use Rattle.us_lawful.specs.Runs.{activities_in, counts_in, finals_in, requested_in}
+use Rattle.us_reports.specs.Rows.{is_requested}
 use Rattle.us_credit_rules.specs.declared.credit_lines.CreditLines.{CreditLines}
 use Rattle.us_credit_rules.specs.Activities.{AreTalkers}
 use Rattle.us_credit_rules.specs.Requests.{AreRequests}

@@ -1,6 +1,6 @@
 -- Places behind the last round of a run.
 use Rattle.std.specs.Prelude.{ℕ, Bool, if◌then◌else◌, Option, Some, None}
-use Rattle.us_lawful.specs.declared.place.Place.{Place}
+use Rattle.us_reports.specs.declared.place.Place.{Place}
 
 -- that of a flow
 abbrev pub end_place : ℕ → ℕ → Place

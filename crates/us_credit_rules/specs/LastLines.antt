@@ -4,10 +4,10 @@ use Rattle.std.specs.Option.{option_eq}
 use Rattle.us_flows.specs.Clusters.{Turn}
 use Rattle.us_output.specs.declared.rows.FinalState.{FinalState}
 use Rattle.us_output.specs.declared.rows.Row.{Row}
-use Rattle.us_lawful.specs.declared.place.Place.{Place}
+use Rattle.us_reports.specs.declared.place.Place.{Place}
 use Rattle.us_lawful.specs.Runs.{Run}
 use Rattle.us_lawful.specs.Finals.{final_holds}
-use Rattle.us_breaches.specs.Breaches.{At}
+use Rattle.us_reports.specs.Breaches.{At}
 use Rattle.us_credit_rules.specs.declared.told.Told.{Told}
 use Rattle.us_credit_rules.specs.declared.requests.Requests.{Requests}
 use Rattle.us_credit_rules.specs.declared.ledgers.Account.{Account}

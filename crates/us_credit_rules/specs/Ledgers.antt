@@ -5,7 +5,7 @@ use Rattle.us_flows.specs.Clusters.{Cluster, Turn}
 use Rattle.us_requests.specs.Cuts.{asked}
 use Rattle.us_requests.specs.Traces.{TraceAsks, asks_in}
 use Rattle.us_output.specs.declared.rows.Grant.{Grant}
-use Rattle.us_lawful.specs.declared.place.Place.{Place}
+use Rattle.us_reports.specs.declared.place.Place.{Place}
 use Rattle.us_lawful.specs.Credits.{is_of}
 use Rattle.us_credit_rules.specs.declared.ledgers.Account.{Account}
 use Rattle.us_credit_rules.specs.declared.ledgers.Ledger.{Ledger}

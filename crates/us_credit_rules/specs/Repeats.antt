@@ -6,9 +6,9 @@ use Rattle.us_flows.specs.declared.channels.Channel.{Channel}
 use Rattle.us_flows.specs.Tables.{channel_with}
 use Rattle.us_flows.specs.Clusters.{Turn, has_sid}
 use Rattle.us_output.specs.declared.rows.Grant.{Grant}
-use Rattle.us_lawful.specs.declared.place.Place.{Place}
+use Rattle.us_reports.specs.declared.place.Place.{Place}
 use Rattle.us_lawful.specs.Credits.{has_cost, is_like}
-use Rattle.us_breaches.specs.Breaches.{Any, At}
+use Rattle.us_reports.specs.Breaches.{Any, At}
 use Rattle.us_credit_rules.specs.Ends.{unless}
 use Rattle.us_credit_rules.specs.Seats.{names, place_of}
 

@@ -4,7 +4,7 @@ use Rattle.us_flows.specs.Tables.{Tables, rounds_fit}
 use Rattle.us_flows.specs.Clusters.{table_order, words_of}
 use Rattle.us_requests.specs.Traces.{TraceAsks}
 use Rattle.us_output.specs.declared.rows.Grant.{Grant}
-use Rattle.us_breaches.specs.Breaches.{IsFirstFailure}
+use Rattle.us_reports.specs.Breaches.{IsFirstFailure}
 use Rattle.us_credit_rules.specs.declared.requests.Requests.{Requests}
 use Rattle.us_credit_rules.specs.Buckets.{credited_all}
 use Rattle.us_credit_rules.specs.Ledgers.{AreAsked, AreCredited}

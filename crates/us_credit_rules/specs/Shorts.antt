@@ -1,6 +1,6 @@
 -- The first round in which something is credited that isn't there.
 use Rattle.std.specs.Prelude.{◌≡◌, ℕ, ◌<◌, Bool, true, false, if◌then◌else◌, Option, Some, None}
-use Rattle.us_lawful.specs.declared.place.Place.{Place}
+use Rattle.us_reports.specs.declared.place.Place.{Place}
 
 -- the first of so many rounds in which a test fails
 abbrev pub IsFirstRound : ℕ → (ℕ → Bool) → Option ℕ → Type 0

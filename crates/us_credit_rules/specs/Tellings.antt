@@ -2,7 +2,7 @@
 use Rattle.std.specs.Prelude.{◌≡◌, ℕ, ◌<◌, Bool, false, List, [], ◌∷◌, length, filter, slice_index_or, slice_set, Option, Some, None}
 use Rattle.std.specs.Option.{is_some}
 use Rattle.us_flows.specs.declared.channels.Channel.{Channel}
-use Rattle.us_breaches.specs.Breaches.{Any, At, IsFirstFailure}
+use Rattle.us_reports.specs.Breaches.{Any, At, IsFirstFailure}
 use Rattle.us_credit_rules.specs.declared.told.Told.{Told}
 use Rattle.us_credit_rules.specs.declared.told.Told.TheVariants.{Nothing, Once, Several}
 use Rattle.us_credit_rules.specs.declared.told.Tellings.{Tellings}

@@ -2,13 +2,13 @@ ghost use Rattle.std.specs.Prelude.{◌≡◌, true};
 ghost use Rattle.us_flows.specs.Tables.{Tables};
 ghost use Rattle.us_lawful.specs.Runs.{Judged, counts_told, run_in};
 ghost use Rattle.us_lawful.specs.Finals.{counts_hold, is_same_counts};
-ghost use Rattle.us_breaches.specs.Breaches.{IsFirstBreach};
+ghost use Rattle.us_reports.specs.Breaches.{IsFirstBreach};
 ghost use Rattle.us_credit_rules.specs.CreditLines.{AreCreditLines};
 ghost use Rattle.us_credit_rules.specs.Tellings.{is_once};
 
 use crate::credit_lines::CreditLines;
 use crate::told::Told;
-use us_lawful::Place;
+use us_reports::Place;
 use us_requests::Trace;
 use us_round::TraceCounts;
 

@@ -2,16 +2,15 @@ ghost use Rattle.std.specs.Prelude.{◌≡◌, false, true};
 ghost use Rattle.us_requests.specs.Traces.{TraceAsks};
 ghost use Rattle.us_lawful.specs.Runs.{Judged, run_in};
 ghost use Rattle.us_lawful.specs.Credits.{credits_hold, sums_hold};
-ghost use Rattle.us_breaches.specs.Breaches.{IsFirstBreach, IsFirstFailure};
+ghost use Rattle.us_reports.specs.Breaches.{IsFirstBreach, IsFirstFailure};
 ghost use Rattle.us_credit_rules.specs.CreditLines.{AreCreditLines};
 ghost use Rattle.us_credit_rules.specs.Ledgers as spec;
 
 use crate::credit_lines::CreditLines;
 use crate::ledgers::{Account, account_at};
 use crate::seats::Seat;
-use us_breaches::earlier;
 use us_flows::Config;
-use us_lawful::Place;
+use us_reports::{Place, earlier};
 
 /// Where the lines of requests first fail: one that isn't right for the cluster that it names, whose place has the
 /// line's round, channel and id; or a cluster that is credited more in a round than is outstanding, whose place has the

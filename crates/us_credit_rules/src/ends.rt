@@ -1,7 +1,7 @@
 ghost use Rattle.std.specs.Prelude.{◌≡◌};
 ghost use Rattle.us_credit_rules.specs.Ends as spec;
 
-use us_lawful::Place;
+use us_reports::Place;
 
 /// The place of a flow behind the last round, where a test has to pass.
 pub(crate) fn unless(holds: bool, rounds: u32, id: u64) -> Option<Place>

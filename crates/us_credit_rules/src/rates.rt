@@ -2,15 +2,14 @@ ghost use Rattle.std.specs.Prelude.{◌≡◌, true};
 ghost use Rattle.us_requests.specs.Traces.{TraceAsks};
 ghost use Rattle.us_lawful.specs.Runs.{Judged, run_in};
 ghost use Rattle.us_lawful.specs.Rates.{rates_hold};
-ghost use Rattle.us_breaches.specs.Breaches.{IsFirstBreach};
+ghost use Rattle.us_reports.specs.Breaches.{IsFirstBreach};
 ghost use Rattle.us_credit_rules.specs.Buckets as spec;
 ghost use Rattle.us_credit_rules.specs.CreditLines.{AreCreditLines};
 
 use crate::buckets::account_in;
 use crate::credit_lines::CreditLines;
-use us_breaches::earlier;
 use us_flows::{Config, Flow};
-use us_lawful::Place;
+use us_reports::{Place, earlier};
 
 /// Where the credits of a flow first break its rate: over some span of rounds that ends there. The third number of a
 /// place is the flow's id, and its channel 0.

@@ -3,16 +3,15 @@ ghost use Rattle.std.specs.Option.{option_copied};
 ghost use Rattle.us_flows.specs.Tables as tables;
 ghost use Rattle.us_flows.specs.Clusters as clusters;
 ghost use Rattle.us_lawful.specs.Credits as credits;
-ghost use Rattle.us_breaches.specs.Order.{earlier};
+ghost use Rattle.us_reports.specs.Order.{earlier};
 ghost use Rattle.us_credit_rules.specs.Ends as ends;
 ghost use Rattle.us_credit_rules.specs.Repeats as spec;
 
 use crate::costs::grant_cost;
 use crate::seats::{Seat, Seats};
 use std::alloc::{AllocError, Global};
-use us_breaches::earlier;
 use us_flows::Channel;
-use us_lawful::Place;
+use us_reports::{Place, earlier};
 use us_round::Grant;
 
 /// How many keys a cluster has: one for each channel id of 8 bits.

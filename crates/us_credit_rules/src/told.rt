@@ -1,14 +1,13 @@
 ghost use Rattle.std.specs.Prelude.{◌≡◌, None, replicate, slice_index_or, IfOk};
 ghost use Rattle.std.specs.Option.{is_some};
-ghost use Rattle.us_breaches.specs.Order.{earlier};
+ghost use Rattle.us_reports.specs.Order.{earlier};
 ghost use Rattle.us_credit_rules.specs.Ends as ends;
 ghost use Rattle.us_credit_rules.specs.Tellings as spec;
 
 use crate::ends::unless;
 use std::alloc::{AllocError, Global};
-use us_breaches::earlier;
 use us_flows::Channel;
-use us_lawful::Place;
+use us_reports::{Place, earlier};
 
 /// What lines tell of one thing.
 #[derive(Clone, Copy)]

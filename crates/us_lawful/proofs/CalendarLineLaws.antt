@@ -23,7 +23,7 @@ use Rattle.us_round.specs.Rounds.{State, builds_of}
 use Rattle.us_output.specs.Outputs.{settled_row, grant_row}
 use Rattle.us_round.specs.ScheduleLaws.{AreCuts}
 use Rattle.us_output.proofs.PartLemmas.{all_append, all_contained, all_flat, all_found, all_mapped}
-use Rattle.us_lawful.specs.declared.place.Place.{Place}
+use Rattle.us_reports.specs.declared.place.Place.{Place}
 use Rattle.us_lawful.specs.Runs.{Run, Judged}
 use Rattle.us_lawful.specs.Output.{output_of, judged_of, run_of}
 use Rattle.us_lawful.specs.CalendarLines.{ChannelEntry, channel_entries, round_quarters, closes, speaks_in, is_there, closing_in, names, times, is_right_line, tells_one_of, is_calendar_line_at, told_lines_hold, is_entry_at, closings_hold, calendar_lines_hold}

@@ -29,8 +29,9 @@ use Rattle.us_output.specs.Outputs.{entry_word, settled_row, grant_row}
 use Rattle.us_round.specs.ScheduleLaws.{AreCuts}
 use Rattle.us_output.proofs.PartLemmas.{all_found, all_weaker}
 use Rattle.us_round.proofs.ChannelRunLaws.{channels_stay}
-use Rattle.us_lawful.specs.declared.place.Place.{Place}
-use Rattle.us_lawful.specs.Runs.{Run, as_grant, is_requested, grants_in, requested_in}
+use Rattle.us_reports.specs.declared.place.Place.{Place}
+use Rattle.us_lawful.specs.Runs.{Run, as_grant, grants_in, requested_in}
+use Rattle.us_reports.specs.Rows.{is_requested}
 use Rattle.us_lawful.specs.Output.{output_of, judged_of, run_of}
 use Rattle.us_lawful.specs.Places.{is_told_at}
 use Rattle.us_lawful.specs.Credits.{is_of, has_cost, is_like, is_right_for, is_right_credit, is_credit_at, credit_lines_hold}

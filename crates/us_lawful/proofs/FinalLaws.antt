@@ -23,7 +23,7 @@ use Rattle.us_output.specs.declared.rows.TraceCounts.{TraceCounts}
 use Rattle.us_round.specs.Rounds.{State, opening, final}
 use Rattle.us_round.specs.ScheduleLaws.{AreCuts}
 use Rattle.us_output.proofs.PartLemmas.{all_found, all_mapped, all_weaker}
-use Rattle.us_lawful.specs.declared.place.Place.{Place}
+use Rattle.us_reports.specs.declared.place.Place.{Place}
 use Rattle.us_lawful.specs.Runs.{Run, activities_in, counts_in, counts_told, finals_in}
 use Rattle.us_lawful.specs.Credits.{asked_within, credited_within}
 use Rattle.us_lawful.specs.Finals.{activities_hold, activity_holds, activity_of, counts_hold, final_holds, final_of, finals_hold, flow_activity_holds, flow_finals_hold, is_final_of, is_same_activity, is_same_counts, is_same_final, level_left, talking, units_left}

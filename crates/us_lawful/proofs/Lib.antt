@@ -28,7 +28,3 @@ pub mod FinalLaws
 pub mod FieldLaws
 pub mod LawfulLaws
 pub mod TraceTextLaws
-pub mod ReportReaderLemmas
-pub mod ReportPlaceLemmas
-pub mod ReportLineLemmas
-pub mod ReportLemmas

@@ -13,7 +13,7 @@ use Rattle.us_round.specs.ScheduleLaws.{AreCuts}
 use Rattle.us_output.specs.declared.rows.Row.{Row}
 use Rattle.us_output.proofs.PartLemmas.{all_weaker}
 use Rattle.us_round.proofs.ChannelRunLaws.{channels_stay}
-use Rattle.us_lawful.specs.declared.place.Place.{Place}
+use Rattle.us_reports.specs.declared.place.Place.{Place}
 use Rattle.us_lawful.specs.Output.{output_of, judged_of, run_of}
 use Rattle.us_lawful.specs.Places.{is_told_at, has_place, places_hold}
 use Rattle.us_lawful.proofs.SameLemmas.{sum_flat_map}

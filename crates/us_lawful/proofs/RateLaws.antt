@@ -16,7 +16,7 @@ use Rattle.us_output.specs.declared.rows.Row.{Row}
 use Rattle.us_round.specs.Rounds.{State, opening, is_of_flow}
 use Rattle.us_round.specs.ScheduleLaws.{AreCuts}
 use Rattle.us_round.proofs.ScheduleLaws.{rounds_are_numbered}
-use Rattle.us_lawful.specs.declared.place.Place.{Place}
+use Rattle.us_reports.specs.declared.place.Place.{Place}
 use Rattle.us_lawful.specs.Rates.{flow_credit, flow_credits, flow_rate_holds, rates_hold, span_holds}
 use Rattle.us_lawful.specs.Output.{output_of, judged_of, run_of}
 use Rattle.us_lawful.proofs.TestLemmas.{all_pass}

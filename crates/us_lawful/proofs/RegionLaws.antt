@@ -34,7 +34,7 @@ use Rattle.us_round.proofs.ChannelRunLaws.{calendars_run, channels_stay}
 use Rattle.us_round.proofs.MapLaws.{maps_are_lawful}
 use Rattle.us_round.proofs.ScheduleLaws.{schedule_is_of_begun_rounds}
 use Rattle.us_lawful.specs.Runs as runs
-use Rattle.us_lawful.specs.declared.place.Place.{Place}
+use Rattle.us_reports.specs.declared.place.Place.{Place}
 use Rattle.us_lawful.specs.Runs.{Judged}
 use Rattle.us_lawful.specs.Output.{output_of, round_maps, judged_of, run_of}
 use Rattle.us_lawful.specs.Regions.{Region, reserve_regions, grant_regions, regions_of, element_regions, map_regions, told_regions, minislot_holds, channel_holds, regions_hold}

@@ -20,7 +20,7 @@ use Rattle.us_round.specs.Rounds.{opening, builds_of, all_grants, is_of_cluster,
 use Rattle.us_round.specs.ScheduleLaws.{AreCuts, asked_of, credited_of}
 use Rattle.us_round.proofs.ByteLaws.{bytes_are_kept}
 use Rattle.us_output.proofs.PartLemmas.{all_taken, all_weaker}
-use Rattle.us_lawful.specs.declared.place.Place.{Place}
+use Rattle.us_reports.specs.declared.place.Place.{Place}
 use Rattle.us_lawful.specs.Runs.{Run, requested_in}
 use Rattle.us_lawful.specs.Credits.{asked_within, credited_in, credited_within, is_of, sum_holds, sums_hold}
 use Rattle.us_lawful.specs.Output.{output_of, judged_of, run_of}

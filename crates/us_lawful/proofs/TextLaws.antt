@@ -20,12 +20,14 @@ use Rattle.us_round.specs.Rounds.{State, builds_of}
 use Rattle.us_output.specs.Outputs.{RoundOut, entry_word, settled_row, grant_row}
 use Rattle.us_round.specs.ScheduleLaws.{AreCuts}
 use Rattle.us_output.proofs.PartLemmas.{all_append, all_both}
-use Rattle.us_lawful.specs.Runs.{Run, is_requested}
+use Rattle.us_lawful.specs.Runs.{Run}
+use Rattle.us_reports.specs.Rows.{is_requested}
 use Rattle.us_output.specs.Files.{records, round_lines, lines}
 use Rattle.us_output.specs.Lines.{text_of, HasFields}
 use Rattle.us_lawful.specs.Output.{Output, output_of, maps_text, report_text, all_rows, round_maps, judged_of}
 use Rattle.us_lawful.specs.Lawful.{IsLawful}
-use Rattle.us_lawful.specs.Texts.{IsRow, AreLawful, can_be_told, record_of}
+use Rattle.us_lawful.specs.Texts.{AreLawful, record_of}
+use Rattle.us_reports.specs.Rows.{IsRow, can_be_told}
 use Rattle.us_lawful.specs.Laws.{ReportsReadBack}
 use Rattle.us_lawful.proofs.TestLemmas.{all_pass, each_passes}
 use Rattle.us_lawful.proofs.SameLemmas.{same_all}

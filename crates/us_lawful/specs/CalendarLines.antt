@@ -14,8 +14,9 @@ use Rattle.us_output.specs.declared.rows.EntryWord.TheVariants as words
 use Rattle.us_output.specs.declared.rows.Grant.{Grant}
 use Rattle.us_output.specs.declared.rows.Row.{Row}
 use Rattle.us_output.specs.declared.rows.Row.TheVariants as rows
-use Rattle.us_lawful.specs.declared.place.Place.{Place}
-use Rattle.us_lawful.specs.Runs.{Run, Judged, is_requested}
+use Rattle.us_reports.specs.declared.place.Place.{Place}
+use Rattle.us_lawful.specs.Runs.{Run, Judged}
+use Rattle.us_reports.specs.Rows.{is_requested}
 
 -- What there is.
 

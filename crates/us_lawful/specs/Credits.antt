@@ -7,7 +7,7 @@ use Rattle.us_flows.specs.Tables.{channel_with, header_bytes}
 use Rattle.us_flows.specs.Clusters.{Cluster, Turn, has_sid, table_order}
 use Rattle.us_output.specs.declared.rows.Grant.{Grant}
 use Rattle.us_output.specs.declared.rows.Row.{Row}
-use Rattle.us_lawful.specs.declared.place.Place.{Place}
+use Rattle.us_reports.specs.declared.place.Place.{Place}
 use Rattle.us_lawful.specs.Runs.{Run, Judged, requested_in}
 
 -- Lines.

@@ -12,7 +12,7 @@ use Rattle.us_output.specs.declared.rows.FinalActivity.{FinalActivity}
 use Rattle.us_output.specs.declared.rows.FinalState.{FinalState}
 use Rattle.us_output.specs.declared.rows.Row.{Row}
 use Rattle.us_output.specs.declared.rows.TraceCounts.{TraceCounts}
-use Rattle.us_lawful.specs.declared.place.Place.{Place}
+use Rattle.us_reports.specs.declared.place.Place.{Place}
 use Rattle.us_lawful.specs.Runs.{Run, Judged, activities_in, finals_in, counts_in, counts_told}
 use Rattle.us_lawful.specs.Rates.{flow_credits}
 use Rattle.us_lawful.specs.Credits.{credited_within, asked_within}

@@ -17,7 +17,7 @@ use Rattle.us_lawful.specs.Regions.{Region, minislot_holds}
 use Rattle.us_lawful.specs.Lawful.{IsLawful}
 use Rattle.us_lawful.specs.Texts.{AreLawful}
 use Rattle.us_output.specs.Lines.{HasFields}
-use Rattle.us_lawful.specs.Reports.{IsReport}
+use Rattle.us_reports.specs.Reports.{IsReport}
 
 -- Schedules.
 

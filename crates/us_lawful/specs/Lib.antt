@@ -23,17 +23,11 @@ pub mod Finals
 pub mod Lawful
 -- texts that are lawful
 pub mod Texts
--- which bytes are reports
-pub mod Reports
 -- the output of a schedule
 pub mod Output
 -- laws: it is lawful
 pub mod Laws
--- how their lines are read, for the calls of this crate
-pub mod ReportReaders
--- what a line may tell, at small inputs,
-pub mod LineExamples
--- the stored run,
+-- at small inputs: the stored run,
 pub mod Examples
 -- and each rule
 pub mod HeadingExamples

@@ -4,7 +4,7 @@ use Rattle.std.specs.List.{list_any}
 use Rattle.us_flows.specs.Tables.{has_channel}
 use Rattle.us_output.specs.declared.rows.Row.{Row}
 use Rattle.us_output.specs.declared.rows.Row.TheVariants as rows
-use Rattle.us_lawful.specs.declared.place.Place.{Place}
+use Rattle.us_reports.specs.declared.place.Place.{Place}
 use Rattle.us_lawful.specs.Runs.{Run, Judged}
 
 -- a G or M line that is of this round and channel

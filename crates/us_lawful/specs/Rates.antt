@@ -6,7 +6,7 @@ use Rattle.us_flows.specs.Tables.{Tables, FlowTable}
 use Rattle.us_bucket.specs.Levels.{units_per_byte}
 use Rattle.us_bucket.specs.Spans.{credited}
 use Rattle.us_output.specs.declared.rows.Row.{Row}
-use Rattle.us_lawful.specs.declared.place.Place.{Place}
+use Rattle.us_reports.specs.declared.place.Place.{Place}
 use Rattle.us_lawful.specs.Runs.{Run, Judged, requested_in}
 
 -- the bytes that lines of requests credit to a flow in a round

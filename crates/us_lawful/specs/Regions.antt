@@ -10,7 +10,7 @@ use Rattle.us_channel.specs.Reserves.{broadcast}
 use Rattle.us_channel.specs.Maps.{gap}
 use Rattle.us_output.specs.declared.rows.Grant.{Grant}
 use Rattle.us_output.specs.declared.rows.Row.{Row}
-use Rattle.us_lawful.specs.declared.place.Place.{Place}
+use Rattle.us_reports.specs.declared.place.Place.{Place}
 use Rattle.us_lawful.specs.declared.judged.RoundMap.{RoundMap}
 use Rattle.us_lawful.specs.Runs.{Run, Judged, grants_in}
 

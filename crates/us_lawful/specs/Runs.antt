@@ -1,16 +1,15 @@
 -- What a run is judged by, and what is judged (ours).
-use Rattle.std.specs.Prelude.{ℕ, List, filter, filter_map, Option, Some, None, Bool, true, false}
+use Rattle.std.specs.Prelude.{ℕ, List, filter, filter_map, Option, Some, None}
 use Rattle.us_flows.specs.Tables.{Tables}
 use Rattle.us_requests.specs.declared.asks.Counts.{Counts}
 use Rattle.us_requests.specs.Traces.{TraceAsks, cuts_in}
-use Rattle.us_output.specs.declared.rows.EntryWord.{EntryWord}
-use Rattle.us_output.specs.declared.rows.EntryWord.TheVariants as words
 use Rattle.us_output.specs.declared.rows.FinalActivity.{FinalActivity}
 use Rattle.us_output.specs.declared.rows.FinalState.{FinalState}
 use Rattle.us_output.specs.declared.rows.Grant.{Grant}
 use Rattle.us_output.specs.declared.rows.Row.{Row}
 use Rattle.us_output.specs.declared.rows.Row.TheVariants as rows
 use Rattle.us_output.specs.declared.rows.TraceCounts.{TraceCounts}
+use Rattle.us_reports.specs.Rows.{is_requested}
 use Rattle.us_lawful.specs.declared.judged.RoundMap.{RoundMap}
 
 -- a run: its tables, the number of its rounds, what each round cuts, in bytes by word, and how many rows of the trace are
@@ -47,10 +46,6 @@ as_activity _ = None
 abbrev pub as_counts : Row → Option TraceCounts
 as_counts (rows.Counts counts) = Some counts
 as_counts _ = None
-
-abbrev pub is_requested : EntryWord → Bool
-is_requested words.Requested = true
-is_requested _ = false
 
 -- the G lines,
 abbrev pub grants_in : List Row → List Grant

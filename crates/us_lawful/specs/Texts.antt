@@ -1,28 +1,17 @@
 -- Two texts that are lawful for a run: a maps file and a report.
-use Rattle.std.specs.Prelude.{◌≡◌, ℕ, not, Bool, true, List, map}
+use Rattle.std.specs.Prelude.{◌≡◌, ℕ, List, map}
 use Rattle.std.specs.List.{AllByRecursion}
 use Rattle.us_codec.specs.Bodies.{spelling}
 use Rattle.us_codec.specs.MapsFiles.{Piece, maps_file}
-use Rattle.us_output.specs.declared.rows.Row.{Row}
-use Rattle.us_output.specs.declared.rows.Row.TheVariants as rows
-use Rattle.us_output.specs.Lines.{HasFields}
 use Rattle.us_output.specs.Files.{lines}
 use Rattle.us_lawful.specs.declared.judged.RoundMap.{RoundMap}
-use Rattle.us_lawful.specs.Runs.{Run, Judged, is_requested}
+use Rattle.us_lawful.specs.Runs.{Run, Judged}
+use Rattle.us_reports.specs.Rows.{IsRow}
 use Rattle.us_lawful.specs.Lawful.{IsLawful}
 
 -- the record of a MAP: its round, and its body as bytes
 abbrev pub record_of : RoundMap → Piece
 record_of m = record { round = m.round; body = spelling m.body }
-
--- what is missed is of a calendar
-abbrev pub can_be_told : Row → Bool
-can_be_told (rows.Missed m) = not (is_requested m.entry)
-can_be_told _ = true
-
--- what a line of a report may tell
-abbrev pub IsRow : Row → Type 0
-IsRow row = HasFields row × (can_be_told row ≡ true)
 
 -- they spell MAPs and lines that are lawful
 pub record AreLawful (run : Run) (maps report : List ℕ) : Type 0 where

@@ -2,7 +2,6 @@
 //! into a run, and of cuts with a number for each word.
 
 ghost use Rattle.us_lawful.specs.Laws.{LinesHaveFields, OrderedAssignmentsHold, ReportsReadBack, SchedulesAreLawful, TextsOfSchedulesAreLawful, TextsOfTracesAreLawful};
-ghost use Rattle.us_lawful.specs.Reports.{OneReading};
 
 /// All that a schedule gives is lawful.
 pub fn schedules_are_lawful()
@@ -32,9 +31,4 @@ pub fn reports_read_back()
 /// Assignments in order, with the gaps between them, are lawful at every minislot.
 pub fn ordered_assignments_hold()
     ensures { OrderedAssignmentsHold }
-{}
-
-/// Bytes have one reading: the rows whose lines they are, or the number of the first line that is of no row.
-pub fn one_reading()
-    ensures { OneReading }
 {}

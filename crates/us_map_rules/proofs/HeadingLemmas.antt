@@ -10,13 +10,13 @@ use Rattle.std.proofs.lemmas.Option.{slice_get_past, slice_get-map, slice_get-ge
 use Rattle.us_codec.specs.MapsFiles.{record_bytes}
 use Rattle.us_flows.specs.declared.channels.Channel.{Channel}
 use Rattle.us_lawful.specs.declared.judged.RoundMap.{RoundMap}
-use Rattle.us_lawful.specs.declared.place.Place.{Place}
+use Rattle.us_reports.specs.declared.place.Place.{Place}
 use Rattle.us_lawful.specs.Lawful.{IsRoundMap}
 use Rattle.us_lawful.specs.Texts.{record_of}
 use Rattle.us_lawful.specs.Runs.{Run, Judged}
 use Rattle.us_lawful.specs.Headings.{Heading, heading_told, heading_of, headings_of, HeadingsHold}
-use Rattle.us_breaches.specs.Order.{goes_before}
-use Rattle.us_breaches.specs.Breaches.{IsFirstBreach}
+use Rattle.us_reports.specs.Order.{goes_before}
+use Rattle.us_reports.specs.Breaches.{IsFirstBreach}
 use Rattle.us_map_rules.specs.MapsReading.{Answers, BeginsNoRecord, IsFirstBadRecord}
 use Rattle.us_map_rules.specs.Headings.{IsOtherWith}
 use Rattle.us_map_rules.proofs.MapsLemmas.{Read, read_all, read_more, read_nothing}

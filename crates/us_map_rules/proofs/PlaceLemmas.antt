@@ -6,11 +6,11 @@ use Rattle.std.proofs.lemmas.Bool.{cases_Bool, false≢true, and_parts, or_cases
 use Rattle.us_flows.specs.declared.channels.Channel.{Channel}
 use Rattle.us_output.specs.declared.rows.Row.{Row}
 use Rattle.us_output.specs.declared.rows.Row.TheVariants as rows
-use Rattle.us_lawful.specs.declared.place.Place.{Place}
+use Rattle.us_reports.specs.declared.place.Place.{Place}
 use Rattle.us_lawful.specs.Runs.{Run, Judged}
 use Rattle.us_lawful.specs.Places.{is_told_at, has_place, places_hold}
-use Rattle.us_breaches.specs.Breaches.{IsFirstBreach, IsFirstFailure, Any}
-use Rattle.us_breaches.proofs.BreachLemmas.{holds_first, same_places}
+use Rattle.us_reports.specs.Breaches.{IsFirstBreach, IsFirstFailure, Any}
+use Rattle.us_reports.proofs.BreachLemmas.{holds_first, same_places}
 use Rattle.us_map_rules.specs.LackedPlaces.{place_told, IsOfLackedPlace}
 
 -- A line.

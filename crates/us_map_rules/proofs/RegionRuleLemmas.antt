@@ -15,14 +15,14 @@ use Rattle.us_output.specs.declared.rows.Grant.{Grant}
 use Rattle.us_output.specs.declared.rows.Row.{Row}
 use Rattle.us_output.specs.declared.rows.Row.TheVariants as rows
 use Rattle.us_lawful.specs.Runs.{Judged, Run, run_in}
-use Rattle.us_lawful.specs.declared.place.Place.{Place}
+use Rattle.us_reports.specs.declared.place.Place.{Place}
 use Rattle.us_lawful.specs.declared.judged.RoundMap.{RoundMap}
 use Rattle.us_lawful.specs.Regions.{Region, channel_holds, grant_regions, map_regions, minislot_holds, region_of, regions_hold, reserve_regions, told_regions}
 use Rattle.us_lawful.proofs.ItemLemmas.{moved_all}
 use Rattle.us_lawful.proofs.RegionLemmas.{moved_holds}
 use Rattle.us_lawful.proofs.SameLemmas.{Same, same_append, same_filter, same_map, same_moved}
-use Rattle.us_breaches.specs.Order.{goes_before, place_of, rank_goes_before, rank_of}
-use Rattle.us_breaches.specs.Breaches.{IsFirstBreach}
+use Rattle.us_reports.specs.Order.{goes_before, place_of, rank_goes_before, rank_of}
+use Rattle.us_reports.specs.Breaches.{IsFirstBreach}
 use Rattle.us_map_rules.specs.declared.gathered.MapRegions.{MapRegions}
 use Rattle.us_map_rules.specs.declared.region_lines.PlacedRegion.{PlacedRegion}
 use Rattle.us_map_rules.specs.RegionLines.{map_number, placed_line}

@@ -9,7 +9,7 @@ use Rattle.std.proofs.lemmas.Option.{slice_get_past, slice_get-get_or}
 use Rattle.us_flows.specs.declared.channels.Channel.{Channel}
 use Rattle.us_flows.specs.Tables.{Tables, channel_with}
 use Rattle.us_flows.specs.Lawful.{AreApart, IsChannel}
-use Rattle.us_breaches.specs.Order.{place_of}
+use Rattle.us_reports.specs.Order.{place_of}
 
 -- Ids.
 

@@ -5,12 +5,12 @@ use Rattle.std.specs.List.{AllByRecursion}
 use Rattle.us_codec.specs.MapsFiles.{Piece, IsPiece, record_bytes, maps_file}
 use Rattle.us_output.specs.declared.rows.Row.{Row}
 use Rattle.us_lawful.specs.declared.judged.RoundMap.{RoundMap}
-use Rattle.us_lawful.specs.declared.place.Place.{Place}
+use Rattle.us_reports.specs.declared.place.Place.{Place}
 use Rattle.us_lawful.specs.Runs.{Run}
 use Rattle.us_lawful.specs.Headings.{HeadingsHold}
 use Rattle.us_lawful.specs.Lawful.{IsRoundMap}
 use Rattle.us_lawful.specs.Texts.{record_of}
-use Rattle.us_breaches.specs.Breaches.{IsFirstBreach}
+use Rattle.us_reports.specs.Breaches.{IsFirstBreach}
 use Rattle.us_map_rules.specs.declared.maps_faults.MapsFault.{MapsFault}
 use Rattle.us_map_rules.specs.declared.maps_faults.MapsFault.TheVariants as fault
 

@@ -12,7 +12,8 @@ use crate::maps_reading::first_map;
 use std::alloc::Global;
 use us_codec::{Element, Head};
 use us_flows::{Channel, Config};
-use us_lawful::{Place, RoundMap};
+use us_lawful::RoundMap;
+use us_reports::Place;
 use us_requests::Trace;
 use us_slots::Iuc;
 

@@ -2,12 +2,12 @@ ghost use Rattle.std.specs.Prelude.{◌≡◌, true};
 ghost use Rattle.us_flows.specs.Tables.{has_channel};
 ghost use Rattle.us_lawful.specs.Runs.{run_in};
 ghost use Rattle.us_lawful.specs.Places as rule;
-ghost use Rattle.us_breaches.specs.Breaches.{IsFirstBreach, IsFirstFailure};
+ghost use Rattle.us_reports.specs.Breaches.{IsFirstBreach, IsFirstFailure};
 ghost use Rattle.us_map_rules.specs.LackedPlaces as spec;
 
-use us_breaches::earlier;
 use us_flows::{Channel, Config};
-use us_lawful::{Judged, Place};
+use us_lawful::Judged;
+use us_reports::{Place, earlier};
 use us_requests::Trace;
 use us_round::Row;
 

@@ -2,14 +2,14 @@ ghost use Rattle.std.specs.Prelude.{◌≡◌, true, List, IfOk};
 ghost use Rattle.us_lawful.specs.Runs.{run_in};
 ghost use Rattle.us_lawful.specs.declared.judged.RoundMap.{RoundMap};
 ghost use Rattle.us_lawful.specs.Regions.{regions_hold};
-ghost use Rattle.us_breaches.specs.Breaches.{IsFirstBreach};
+ghost use Rattle.us_reports.specs.Breaches.{IsFirstBreach};
 ghost use Rattle.us_map_rules.specs.MapsReading.{IsMapsOf};
 
 use crate::gathered::MapRegions;
 use crate::region_lines::placed_lines;
 use std::alloc::Global;
 use us_flows::Config;
-use us_lawful::Place;
+use us_reports::Place;
 use us_requests::Trace;
 use us_round::Row;
 use us_slots::NoMemory;

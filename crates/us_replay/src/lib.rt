@@ -30,5 +30,5 @@ mod replays;
 pub use faults::RunFault;
 pub use replays::{check_run, replay, replay_alone};
 pub use summaries::Summary;
-pub use us_lawful::{ReportFault, report_rows};
+pub use us_reports::{ReportFault, report_rows};
 pub use us_round::{EntryWord, FinalState, Grant, MissedOccurrence, Row, TraceCounts};

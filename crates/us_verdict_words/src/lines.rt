@@ -2,8 +2,8 @@ use crate::findings::VerdictFile;
 use crate::said::NOTHING;
 use std::alloc::Global;
 use us_findings::Sentence;
-use us_lawful::{ReportFault, report_rows};
 use us_output::{MissedOccurrence, Row};
+use us_reports::{ReportFault, report_rows};
 use us_slots::NoMemory;
 
 /// How many lines are named by their numbers.

@@ -1,5 +1,5 @@
 use super::base::{FIRST, OTHERS, SECOND, judge};
-use us_lawful::Place;
+use us_reports::Place;
 
 /// Run by `tools/refuse-memory` too, where each allocation is refused in turn. A refused one is answered as want of
 /// memory, and never as another place.

@@ -1,11 +1,11 @@
 use std::alloc::Global;
 use std::process::Abort;
 use us_credit_rules::{
-    activities_breach, counts_breach, credits_breach, finals_breach, lines_of_report,
-    rates_breach,
+    activities_breach, counts_breach, credits_breach, finals_breach, lines_of_report, rates_breach,
 };
 use us_flows::Config;
-use us_lawful::{Judged, Place, report_rows};
+use us_lawful::Judged;
+use us_reports::{Place, report_rows};
 use us_requests::Trace;
 use us_samples::{base, put_channel};
 use us_slots::{FromRead, NoMemory};

@@ -1,5 +1,5 @@
 use super::base::{Rule, judge};
-use us_lawful::Place;
+use us_reports::Place;
 
 /// So many lines that what is kept of them grows several times; a cluster without its F line, a flow without its A line,
 /// and no U line.

@@ -1,8 +1,8 @@
 use super::base::{STORED, heading_of, same};
 use std::alloc::Global;
 use std::fmt;
-use us_lawful::Place;
 use us_map_rules::MapsFault;
+use us_reports::Place;
 
 /// The number of the first MAP that isn't that of the stored run, which is of one channel.
 pub fn number_of(alloc: Global, file: &[u8]) -> Result<Option<u64>, MapsFault> {

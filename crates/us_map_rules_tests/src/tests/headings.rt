@@ -1,7 +1,7 @@
 use super::base::{heading_of, same};
 use std::alloc::{AllocError, Global};
-use us_lawful::Place;
 use us_map_rules::MapsFault;
+use us_reports::Place;
 
 /// The channels of the run, in the order of its table.
 const CHANNELS: [u8; 2] = [5, 2];

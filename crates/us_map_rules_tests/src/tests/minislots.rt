@@ -1,8 +1,8 @@
 use std::alloc::Global;
 use std::process::Abort;
 use us_flows::{Config, ConfigFault};
-use us_lawful::{Place, report_rows};
 use us_map_rules::regions_breach;
+use us_reports::{Place, report_rows};
 use us_requests::Trace;
 use us_samples::{base, put_channel};
 use us_slots::FromRead;

@@ -1,7 +1,7 @@
 use super::base::{place_of, same};
 use std::alloc::{AllocError, Global};
-use us_lawful::Place;
 use us_map_rules::MapsFault;
+use us_reports::Place;
 use us_round::{EntryWord, FinalActivity, FinalState, Grant, MissedOccurrence, Row, TraceCounts};
 
 /// The channels of the run of 2 rounds, in the order of its table.

@@ -1,7 +1,7 @@
 use Rattle.std.proofs.Common.{◌≡◌, true, take, subst, sym, ◌∙◌}
 use Rattle.std.proofs.lemmas.List.{take_all, take_more}
 use Rattle.us_lawful.specs.CalendarLines.{calendar_lines_hold}
-use Rattle.us_breaches.specs.Breaches.{IsFirstBreach}
+use Rattle.us_reports.specs.Breaches.{IsFirstBreach}
 use Rattle.us_calendar_rules.specs.Told.{AreTold}
 use Rattle.us_calendar_rules.proofs.calendar_lines.calendar_lines_breach.Goals as goal
 

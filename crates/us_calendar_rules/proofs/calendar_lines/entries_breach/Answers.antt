@@ -1,7 +1,7 @@
 use Rattle.std.proofs.Common.{◌≡◌, true, All, ap, get_or, subst, sym, ◌∙◌, arith}
 use Rattle.std.proofs.lemmas.List.{get_or-map, get_or-set_other, length-set}
-use Rattle.us_breaches.specs.Breaches.{IsFirstFailure}
-use Rattle.us_breaches.proofs.BreachLemmas.{all_done, one_more}
+use Rattle.us_reports.specs.Breaches.{IsFirstFailure}
+use Rattle.us_reports.proofs.BreachLemmas.{all_done, one_more}
 use Rattle.us_calendar_rules.specs.Failures.{comes_in}
 use Rattle.us_calendar_rules.specs.Told.{EntryFails, OccurrencesFail, told_of}
 use Rattle.us_calendar_rules.proofs.ListedLemmas.{listed_among}

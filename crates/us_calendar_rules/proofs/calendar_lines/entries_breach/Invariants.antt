@@ -1,6 +1,6 @@
 use Rattle.std.proofs.Common.{◌≡◌, ◌≤◌, ℕ, List, get_or, length, map, take}
 use Rattle.us_output.specs.declared.rows.Row.{Row}
-use Rattle.us_breaches.specs.Breaches.{Any, IsFirstFailure}
+use Rattle.us_reports.specs.Breaches.{Any, IsFirstFailure}
 use Rattle.us_calendar_rules.specs.Told.{OccurrencesFail, ToldEntry, told_of}
 use Rattle.us_calendar_rules.proofs.calendar_lines.entries_breach.Given as goal
 

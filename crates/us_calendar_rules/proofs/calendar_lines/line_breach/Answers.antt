@@ -2,8 +2,8 @@ use Rattle.std.proofs.Common.{◌≡◌, None, Some, ap, ap₂, sym, subst, ◌�
 use Rattle.std.specs.Prelude.{if◌then◌else◌}
 use Rattle.std.proofs.lemmas.List.{length-set}
 use Rattle.std.specs.List.{list_any}
-use Rattle.us_breaches.specs.Breaches.{At, IsFirstFailure}
-use Rattle.us_breaches.proofs.BreachLemmas.{at_test}
+use Rattle.us_reports.specs.Breaches.{At, IsFirstFailure}
+use Rattle.us_reports.proofs.BreachLemmas.{at_test}
 use Rattle.us_calendar_rules.specs.Failures.{FailsAsLine}
 use Rattle.us_calendar_rules.specs.Naming.{calendar_line, tells_right}
 use Rattle.us_calendar_rules.specs.Told.{told_more}

@@ -1,7 +1,7 @@
 use Rattle.std.proofs.Common.{◌∙◌, ap, sym}
-use Rattle.us_lawful.specs.declared.place.Place.{Place}
+use Rattle.us_reports.specs.declared.place.Place.{Place}
 use Rattle.us_lawful.specs.CalendarLines.{closes, closing_round}
-use Rattle.us_breaches.proofs.OrderLemmas.{place-is}
+use Rattle.us_reports.proofs.OrderLemmas.{place-is}
 use Rattle.us_calendar_rules.specs.Failures.{times_in}
 use Rattle.us_calendar_rules.proofs.ClosingLemmas.{first_closes, is_open, none_closes}
 use Rattle.us_calendar_rules.proofs.CountLemmas.{if_some}

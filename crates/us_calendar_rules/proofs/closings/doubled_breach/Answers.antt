@@ -1,6 +1,6 @@
 use Rattle.std.proofs.Common.{nat_le, get_or, refl, arith}
-use Rattle.us_breaches.specs.Breaches.{IsFirstFailure}
-use Rattle.us_breaches.proofs.BreachLemmas.{all_done, at_test, one_more}
+use Rattle.us_reports.specs.Breaches.{IsFirstFailure}
+use Rattle.us_reports.proofs.BreachLemmas.{all_done, at_test, one_more}
 use Rattle.us_calendar_rules.specs.declared.told.OpenLine.{OpenLine}
 use Rattle.us_calendar_rules.specs.Failures.{OpenFails, times_in}
 use Rattle.us_calendar_rules.proofs.closings.doubled_breach.Goals as goal

@@ -1,5 +1,5 @@
 use Rattle.std.proofs.Common.{take}
-use Rattle.us_breaches.specs.Breaches.{Any, IsFirstFailure}
+use Rattle.us_reports.specs.Breaches.{Any, IsFirstFailure}
 use Rattle.us_calendar_rules.specs.Failures.{OpenFails, times_in}
 use Rattle.us_calendar_rules.proofs.closings.doubled_breach.Given as goal
 

@@ -1,4 +1,4 @@
-use Rattle.us_lawful.proofs.ReportLemmas.{less_left}
+use Rattle.us_reports.proofs.ReportLemmas.{less_left}
 use Rattle.us_check.proofs.ReadingLemmas.{read_all, read_fault, read_on, read_start}
 use Rattle.us_check.proofs.judging.read_lines.Goals as goal
 

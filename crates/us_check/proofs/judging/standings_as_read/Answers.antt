@@ -1,6 +1,6 @@
 use Rattle.std.proofs.Common.{◌≡◌, ℕ, ◌+◌, List, [], ◌∷◌, ◌++◌, length, refl, sym, ap, subst, ◌∙◌, arith, length-append}
-use Rattle.us_lawful.specs.Reports.{IsReport}
-use Rattle.us_lawful.proofs.ReportLemmas.{less_left}
+use Rattle.us_reports.specs.Reports.{IsReport}
+use Rattle.us_reports.proofs.ReportLemmas.{less_left}
 use Rattle.us_check.specs.Judges.{lines_there}
 use Rattle.us_check.proofs.ReadingLemmas.{IsReadTo, line_some, read_all, read_on, read_start, there_behind}
 use Rattle.us_check.specs.declared.judging.Standing.{Standing}

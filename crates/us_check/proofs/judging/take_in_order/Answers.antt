@@ -1,6 +1,6 @@
 use Rattle.std.proofs.Common.{List, []}
 use Rattle.us_lawful.specs.declared.judged.RoundMap.{RoundMap}
-use Rattle.us_lawful.proofs.ReportLemmas.{less_left}
+use Rattle.us_reports.proofs.ReportLemmas.{less_left}
 use Rattle.us_check.specs.Judges.{AreTold}
 use Rattle.us_check.proofs.ReadingLemmas.{read_all, read_fault, read_on, read_start}
 use Rattle.us_check.proofs.judging.take_in_order.Goals as goal

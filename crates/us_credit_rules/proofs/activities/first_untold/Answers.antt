@@ -1,7 +1,7 @@
 use Rattle.std.proofs.Common.{get_or, refl}
 use Rattle.us_output.specs.declared.rows.FinalActivity.{FinalActivity}
-use Rattle.us_breaches.specs.Breaches.{IsFirstFailure}
-use Rattle.us_breaches.proofs.BreachLemmas.{all_done, at_test, one_more}
+use Rattle.us_reports.specs.Breaches.{IsFirstFailure}
+use Rattle.us_reports.proofs.BreachLemmas.{all_done, at_test, one_more}
 use Rattle.us_lawful.specs.Finals.{is_same_activity}
 use Rattle.us_credit_rules.specs.declared.told.Told.TheVariants.{Nothing}
 use Rattle.us_credit_rules.specs.Tellings.{is_once}

@@ -1,5 +1,5 @@
 use Rattle.std.proofs.Common.{take}
-use Rattle.us_breaches.specs.Breaches.{IsFirstFailure, Any}
+use Rattle.us_reports.specs.Breaches.{IsFirstFailure, Any}
 use Rattle.us_credit_rules.specs.Activities.{IsUntold}
 use Rattle.us_credit_rules.proofs.activities.first_untold.Given as goal
 

@@ -1,7 +1,7 @@
 use Rattle.us_lawful.specs.Runs.{run_in}
 use Rattle.us_lawful.specs.Credits.{credit_lines_hold, credits_hold, sums_hold}
 use Rattle.us_lawful.proofs.SameLemmas.{same_moved}
-use Rattle.us_breaches.proofs.BreachLemmas.{both_tests, holds_first}
+use Rattle.us_reports.proofs.BreachLemmas.{both_tests, holds_first}
 use Rattle.us_lawful.specs.Runs.{requested_in}
 use Rattle.us_credit_rules.proofs.KeptLemmas.{requests_moved}
 use Rattle.us_credit_rules.proofs.RepeatLemmas.{lines_first}

@@ -1,7 +1,7 @@
 use Rattle.std.proofs.Common.{◌≡◌, false, ◌∙◌}
 use Rattle.us_lawful.specs.Runs.{run_in}
-use Rattle.us_breaches.specs.Breaches.{IsFirstFailure}
-use Rattle.us_breaches.proofs.BreachLemmas.{all_done, one_more}
+use Rattle.us_reports.specs.Breaches.{IsFirstFailure}
+use Rattle.us_reports.proofs.BreachLemmas.{all_done, one_more}
 use Rattle.us_credit_rules.proofs.SeatLemmas.{seat_listed}
 use Rattle.us_credit_rules.proofs.RuleLemmas.{sum_first, sum_test, sums_first}
 use Rattle.us_credit_rules.proofs.credits.first_sum.Goals as goal

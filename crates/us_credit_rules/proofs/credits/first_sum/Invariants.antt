@@ -1,7 +1,7 @@
 use Rattle.std.proofs.Common.{◌≡◌, take, false}
 use Rattle.us_requests.specs.Traces.{TraceAsks}
 use Rattle.us_lawful.specs.Runs.{Judged, run_in}
-use Rattle.us_breaches.specs.Breaches.{IsFirstFailure, Any}
+use Rattle.us_reports.specs.Breaches.{IsFirstFailure, Any}
 use Rattle.us_credit_rules.specs.CreditLines.{AreCreditLines}
 use Rattle.us_credit_rules.proofs.RuleLemmas.{sum_test}
 use Rattle.us_credit_rules.proofs.credits.first_sum.Given as goal

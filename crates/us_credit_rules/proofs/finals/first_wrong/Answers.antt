@@ -1,8 +1,8 @@
 use Rattle.std.proofs.Common.{◌≡◌, sym, ◌∙◌}
 use Rattle.us_lawful.specs.Runs.{run_in}
 use Rattle.us_lawful.specs.Finals.{final_holds}
-use Rattle.us_breaches.specs.Breaches.{IsFirstFailure}
-use Rattle.us_breaches.proofs.BreachLemmas.{all_done, at_test, one_more}
+use Rattle.us_reports.specs.Breaches.{IsFirstFailure}
+use Rattle.us_reports.proofs.BreachLemmas.{all_done, at_test, one_more}
 use Rattle.us_credit_rules.specs.Ends.{end_place}
 use Rattle.us_credit_rules.specs.LastLines.{IsWrong}
 use Rattle.us_credit_rules.proofs.SeatLemmas.{seat_listed}

@@ -1,6 +1,6 @@
 use Rattle.std.proofs.Common.{take}
 use Rattle.us_lawful.specs.Runs.{Judged, run_in}
-use Rattle.us_breaches.specs.Breaches.{IsFirstFailure, Any}
+use Rattle.us_reports.specs.Breaches.{IsFirstFailure, Any}
 use Rattle.us_credit_rules.specs.CreditLines.{AreCreditLines}
 use Rattle.us_credit_rules.specs.LastLines.{IsWrong}
 use Rattle.us_credit_rules.proofs.finals.first_wrong.Given as goal

@@ -2,8 +2,8 @@ use Rattle.std.proofs.Common.{◌≡◌, Some, false, length, refl, ap, sym, ◌
 use Rattle.std.specs.Prelude.{slice_get}
 use Rattle.std.proofs.lemmas.Option.{slice_get_read}
 use Rattle.us_lawful.specs.Runs.{run_in}
-use Rattle.us_breaches.specs.Breaches.{IsFirstFailure}
-use Rattle.us_breaches.proofs.BreachLemmas.{all_done, one_more}
+use Rattle.us_reports.specs.Breaches.{IsFirstFailure}
+use Rattle.us_reports.proofs.BreachLemmas.{all_done, one_more}
 use Rattle.us_credit_rules.proofs.RuleLemmas.{rate_first, rate_test, rates_first}
 use Rattle.us_credit_rules.proofs.rates.rates_breach.Goals as goal
 

@@ -1,5 +1,5 @@
 use Rattle.us_lawful.specs.Runs.{Run, run_in}
-use Rattle.us_breaches.proofs.BreachLemmas.{one_next, all_done}
+use Rattle.us_reports.proofs.BreachLemmas.{one_next, all_done}
 use Rattle.us_map_rules.specs.LackedPlaces.{IsOfLackedPlace}
 use Rattle.us_map_rules.proofs.PlaceLemmas.{lines_first}
 use Rattle.us_map_rules.proofs.places.places_breach.Goals as goal

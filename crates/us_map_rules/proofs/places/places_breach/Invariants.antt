@@ -1,6 +1,6 @@
 use Rattle.std.proofs.Common.{take}
 use Rattle.us_lawful.specs.Runs.{Run, run_in}
-use Rattle.us_breaches.specs.Breaches.{IsFirstFailure, Any}
+use Rattle.us_reports.specs.Breaches.{IsFirstFailure, Any}
 use Rattle.us_map_rules.specs.LackedPlaces.{IsOfLackedPlace}
 use Rattle.us_map_rules.proofs.places.places_breach.Given as goal
 

@@ -1,6 +1,6 @@
 use Rattle.std.proofs.Common.{◌≡◌, true, ap, subst, sym}
 use Rattle.us_lawful.specs.CalendarLines.{calendar_lines_hold}
-use Rattle.us_breaches.specs.Breaches.{IsFirstBreach}
+use Rattle.us_reports.specs.Breaches.{IsFirstBreach}
 use Rattle.us_calendar_rules.specs.Told.{AreTold}
 use Rattle.us_calendar_rules.proofs.RuleLemmas.{rule_first}
 use Rattle.us_calendar_rules.proofs.calendar_lines.CalendarLines.breach.Goals as goal

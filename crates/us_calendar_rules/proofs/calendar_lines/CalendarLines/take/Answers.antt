@@ -1,5 +1,5 @@
 use Rattle.std.proofs.Common.{subst, sym}
-use Rattle.us_breaches.proofs.BreachLemmas.{one_behind}
+use Rattle.us_reports.proofs.BreachLemmas.{one_behind}
 use Rattle.us_calendar_rules.specs.Failures.{LineFails}
 use Rattle.us_calendar_rules.specs.Told.{AreTold}
 use Rattle.us_calendar_rules.proofs.calendar_lines.CalendarLines.take.Goals as goal

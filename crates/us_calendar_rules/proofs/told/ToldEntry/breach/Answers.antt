@@ -1,9 +1,9 @@
 use mathlib.Core.Path.{fun_ext}
 use Rattle.std.proofs.Common.{◌≡◌, ◌==◌, true, cond, IsPermutation, subst}
 use Rattle.std.proofs.lemmas.List.Sorted.{All-permutation, sum_by-IsPermutation}
-use Rattle.us_breaches.specs.Order.{earlier}
-use Rattle.us_breaches.specs.Breaches.{Any, Either, IsFirstFailure}
-use Rattle.us_breaches.proofs.BreachLemmas.{joined}
+use Rattle.us_reports.specs.Order.{earlier}
+use Rattle.us_reports.specs.Breaches.{Any, Either, IsFirstFailure}
+use Rattle.us_reports.proofs.BreachLemmas.{joined}
 use Rattle.us_calendar_rules.specs.Failures.{ClosingFails, OpenFails, comes_in, times_in}
 use Rattle.us_calendar_rules.proofs.told.ToldEntry.breach.Goals as goal
 

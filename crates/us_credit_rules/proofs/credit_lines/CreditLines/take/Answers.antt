@@ -2,7 +2,8 @@ use Rattle.std.proofs.Common.{rules, ◌≡◌, [], ◌∷◌, ◌++◌, cond, f
 use Rattle.us_flows.specs.Clusters.{table_order}
 use Rattle.us_output.specs.declared.rows.FinalState.{FinalState}
 use Rattle.us_output.specs.declared.rows.Row.TheVariants as rows
-use Rattle.us_lawful.specs.Runs.{activities_in, counts_in, finals_in, is_requested, requested_in}
+use Rattle.us_lawful.specs.Runs.{activities_in, counts_in, finals_in, requested_in}
+use Rattle.us_reports.specs.Rows.{is_requested}
 use Rattle.us_credit_rules.specs.Requests.{AreRequests}
 use Rattle.us_credit_rules.specs.Seats.{place_of}
 use Rattle.us_credit_rules.specs.Tellings.{told_more}

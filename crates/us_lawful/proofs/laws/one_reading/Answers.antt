@@ -1,5 +1,0 @@
-use Rattle.us_lawful.proofs.ReportLemmas.{one_reading}
-use Rattle.us_lawful.proofs.laws.one_reading.Goals as goal
-
-pub returns : goal.returns
-returns c = one_reading

@@ -1,0 +1,7 @@
+pub mod OrderLemmas
+pub mod BreachLemmas
+pub mod AnyLemmas
+pub mod ReportReaderLemmas
+pub mod ReportPlaceLemmas
+pub mod ReportLineLemmas
+pub mod ReportLemmas

@@ -1,0 +1,18 @@
+-- Read in this order: what a line of a report may tell; which bytes are reports, and how their lines are read; which places
+-- go before which; what a rule's answer says.
+-- In a definition `≡` is equals, `×` and, `⊎` or, `→` implies, `⊥` what never is, `∷` one item before a list, `++` one list
+-- behind another, and ℕ has the whole numbers from 0; `-` stops at 0.
+
+-- what lines may tell
+pub mod Rows
+-- which bytes are reports
+pub mod Reports
+-- how their lines are read
+pub mod ReportReaders
+-- which places go before which
+pub mod Order
+-- the first place at which a rule doesn't hold
+pub mod Breaches
+-- lines and the order at small inputs
+pub mod RowExamples
+pub mod OrderExamples

@@ -1,0 +1,33 @@
+//! Reports: reading one back, and the places of a run in their order, by which each rule of the checker is answered.
+//!
+//! ```
+//! let rows = report_rows(alloc, b"U,0,0,0\n")?; // one row: all requests of the trace were asks
+//! let first = earlier(config.channels(), of_lines, of_occurrences); // the place that goes before the other
+//! ```
+//!
+//! What these words mean stands in `specs/`, in the order of its `Lib.antt`. A rule's crate shows by the laws of
+//! `proofs/BreachLemmas.antt` that an answer is right, from those of the rule's parts.
+#![tactic(auto)]
+
+// Why a report is refused.
+mod report_faults;
+
+// Pieces of its lines, its lines,
+mod report_fields;
+mod report_lines;
+
+// and all of it.
+mod report_reading;
+
+// Laws of reports.
+mod laws;
+
+// Where a rule is looked at, and the order of places.
+mod order;
+mod place;
+
+pub use laws::one_reading;
+pub use order::{earlier, goes_before};
+pub use place::Place;
+pub use report_faults::ReportFault;
+pub use report_reading::{line_at, lines_end, report_rows};
