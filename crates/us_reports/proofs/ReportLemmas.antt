@@ -112,21 +112,21 @@ end_begins bytes end from ends behind row more is spelled =
     let found = feed_found bytes from later.at stands in
     ends.none found.at (omega (arith, behind, found.behind)) found.stands
 
-pub line_read : (bytes : List ℕ) (from : ℕ) (result : Option (Row × ℕ)) → HasLineFeed bytes from →
-    option_map (λ found. (found.0, drop found.1 bytes)) result ≡ row_at (drop from bytes) →
-    IfSome result (λ found. found.1 ≤ length bytes) → AnswersAt bytes from result
-line_read bytes from None feed read within = none_begins (drop from bytes) (sym read)
-line_read bytes from (Some found) feed read within =
-    let told = row_found (drop from bytes) (found.0, drop found.1 bytes) (sym read) in
+pub line_read : (bytes : List ℕ) (from : ℕ) (row : Row) (result : Option ℕ) → HasLineFeed bytes from →
+    option_map (λ next. (row, drop next bytes)) result ≡ row_at (drop from bytes) →
+    IfSome result (λ next. next ≤ length bytes) → AnswersAt bytes from (option_map (λ next. (row, next)) result)
+line_read bytes from row None feed read within = none_begins (drop from bytes) (sym read)
+line_read bytes from row (Some next) feed read within =
+    let told = row_found (drop from bytes) (row, drop next bytes) (sym read) in
     record {
       is = told.0;
       spelled = told.1;
       behind = omega (
         arith,
         ap length told.1,
-        length-append (text_of found.0) (drop found.1 bytes),
+        length-append (text_of row) (drop next bytes),
         length-drop from bytes,
-        length-drop found.1 bytes,
+        length-drop next bytes,
         feed_within bytes from feed,
         within,
       );

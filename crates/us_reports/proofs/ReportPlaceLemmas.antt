@@ -1,5 +1,5 @@
 -- Places of a text with a line feed there or behind them, and what is read on from there.
-use Rattle.std.proofs.Common.{◌≡◌, ◌≢◌, ℕ, zero, suc, ◌+◌, ◌-◌, ◌^◌, ◌<◌, ◌≤◌, ◌==◌, not, nat_lt, true, false, List, [], ◌∷◌, length, get_or, drop, Some, None, refl, sym, ap, ◌∙◌, arith}
+use Rattle.std.proofs.Common.{◌≡◌, ◌≢◌, ℕ, zero, suc, ◌+◌, ◌-◌, ◌*◌, ◌^◌, ◌<◌, ◌≤◌, ◌==◌, not, nat_lt, true, false, List, [], ◌∷◌, length, get_or, drop, Some, None, refl, sym, ap, ◌∙◌, arith}
 use Rattle.std.specs.Prelude.{slice_get, IsTrue}
 use Rattle.std.specs.Char.{is_ascii_digit}
 use Rattle.std.specs.List.{list_all}
@@ -89,3 +89,20 @@ unfolding more_digits
 digit_none bytes at high feed other = rw (feed_drop bytes at feed, other) refl
 
 pub ruleset digits = (digit_step, digit_over, digit_none)
+
+-- two digits behind a first one
+pub two_digits : (bytes : List ℕ) (at one tens units : ℕ) → HasLineFeed bytes at → one < 10 →
+    is_ascii_digit (get_or bytes at 0) ≡ true → is_ascii_digit (get_or bytes (at + 1) 0) ≡ true →
+    tens ≡ get_or bytes at 0 - 48 → units ≡ get_or bytes (at + 1) 0 - 48 →
+    more_digits one (drop at bytes) ≡ more_digits (10 * (10 * one + tens) + units) (drop (at + 2) bytes)
+two_digits bytes at one tens units feed low first second are_tens are_units =
+    let most : get_or bytes at 0 ≤ 57 = grind (arith, nat_tests) in
+    let other : get_or bytes at 0 ≢ 10 = λ same. grind (arith, nat_tests) in
+    let last : get_or bytes (at + 1) 0 ≤ 57 = grind (arith, nat_tests) in
+    let two : ℕ = 10 * one + tens in
+    let three : ℕ = 10 * two + units in
+    let behind : at + 1 + 1 ≡ at + 2 = omega arith in
+    digit_step bytes at one two feed first (ap (λ d. 10 * one + d) are_tens) (omega (arith, most, low, are_tens))
+    ∙ digit_step bytes (at + 1) two three (feed_behind bytes at feed other) second (ap (λ d. 10 * two + d) are_units)
+    (omega (arith, most, last, low, are_tens, are_units))
+    ∙ ap (λ k. more_digits three (drop k bytes)) behind

@@ -30,4 +30,4 @@ pub use laws::one_reading;
 pub use order::{earlier, goes_before};
 pub use place::Place;
 pub use report_faults::ReportFault;
-pub use report_reading::{line_at, lines_end, report_rows};
+pub use report_reading::{ANY_ROW, line_at, lines_end, read_line, report_rows};

@@ -72,7 +72,28 @@ fn number(bytes: &[u8], from: usize) -> Option<(u64, usize)>
     if !first.is_ascii_digit() {
         return None;
     }
-    more_digits(u64::from(first - b'0'), bytes, from + 1)
+    few_digits(u64::from(first - b'0'), bytes, from + 1)
+}
+
+/// A number up to the first byte that is no digit, of which the first digit is `one`. Most have three digits or fewer, and
+/// these can't pass 64 bits.
+#[tactic(auto, using(crate::proofs::ReportPlaceLemmas::places, crate::proofs::ReportPlaceLemmas::digits))]
+#[inline(always)]
+fn few_digits(one: u64, bytes: &[u8], from: usize) -> Option<(u64, usize)>
+    requires feed { HasLineFeed bytes.now from }
+    requires digit { one < 10 }
+    ensures read { option_map (λ found. (found.0, drop found.1 bytes.now)) result ≡ spec.more_digits one (drop from bytes.now) }
+    ensures feed { IfSome result (λ found. HasLineFeed bytes.now found.1) }
+{
+    if !bytes[from].is_ascii_digit() {
+        return Some((one, from));
+    }
+    let two = 10 * one + u64::from(bytes[from] - b'0');
+    if !bytes[from + 1].is_ascii_digit() {
+        return Some((two, from + 1));
+    }
+    let three = 10 * two + u64::from(bytes[from + 1] - b'0');
+    more_digits(three, bytes, from + 2)
 }
 
 /// A number up to the first byte that is no digit, of which the digits so far tell `high`.
@@ -107,6 +128,7 @@ fn with_digit(high: u64, digit: u8) -> Option<u64>
 
 /// The word of an entry.
 #[tactic(auto, unfolding(crate::specs::ReportReaders::word_at, crate::specs::ReportReaders::spelled_at))]
+#[inline(always)]
 pub(crate) fn word(bytes: &[u8], from: usize) -> Option<(EntryWord, usize)>
     requires { HasLineFeed bytes.now from }
     ensures read { option_map (λ found. (found.0, drop found.1 bytes.now)) result ≡ spec.word_at (drop from bytes.now) }

@@ -1,41 +1,59 @@
 //! Lines of a report, each with its line feed: each answers what the line at a place of a text tells, and the place behind
 //! it. A line feed stands there or behind it.
 
-ghost use Rattle.std.specs.Prelude.{◌≡◌, ◌≤◌, drop, length, option_map, IfSome};
+ghost use Rattle.std.specs.Prelude.{◌≡◌, ◌≢◌, ◌≤◌, drop, get_or, length, option_map, IfSome};
 ghost use Rattle.us_reports.specs.ReportReaders as spec;
 ghost use Rattle.us_reports.specs.ReportReaders.{HasLineFeed};
 
 use crate::report_fields::{after, field, line_feed, units, word};
 use us_output::{EntryWord, FinalActivity, FinalState, Grant, MissedOccurrence, Row, TraceCounts};
 
-/// A line.
+/// A line, whose row is written over another one: a row is large, and so none is copied.
 #[tactic(auto, unfolding(crate::specs::ReportReaders::row_at, crate::specs::ReportReaders::told_by))]
-pub(crate) fn row(bytes: &[u8], from: usize) -> Option<(Row, usize)>
+#[inline(always)]
+pub(crate) fn line(bytes: &[u8], from: usize, row: &mut Row) -> Option<usize>
     requires { HasLineFeed bytes.now from }
-    ensures read { option_map (λ found. (found.0, drop found.1 bytes.now)) result ≡ spec.row_at (drop from bytes.now) }
-    ensures within { IfSome result (λ found. found.1 ≤ length bytes.now) }
+    ensures read { option_map (λ next. (row.new, drop next bytes.now)) result ≡ spec.row_at (drop from bytes.now) }
+    ensures within { IfSome result (λ next. next ≤ length bytes.now) }
+{
+    if bytes[from] != b'G' {
+        return other_line(bytes, from, row);
+    }
+    let (grant, next) = grant(bytes, from + 1)?;
+    *row = Row::Granted(grant);
+    Some(next)
+}
+
+/// The same of a line that is no G line. Most lines are G lines: apart from the others, they make nothing ready for these.
+#[tactic(auto, unfolding(crate::specs::ReportReaders::row_at, crate::specs::ReportReaders::told_by))]
+#[inline(never)]
+fn other_line(bytes: &[u8], from: usize, row: &mut Row) -> Option<usize>
+    requires feed { HasLineFeed bytes.now from }
+    requires other { get_or bytes.now from 0 ≢ 71 }
+    ensures read { option_map (λ next. (row.new, drop next bytes.now)) result ≡ spec.row_at (drop from bytes.now) }
+    ensures within { IfSome result (λ next. next ≤ length bytes.now) }
 {
     let behind = from + 1;
     match bytes[from] {
-        b'G' => {
-            let (grant, at) = grant(bytes, behind)?;
-            Some((Row::Granted(grant), at))
-        }
         b'M' => {
-            let (missed, at) = missed(bytes, behind)?;
-            Some((Row::Missed(missed), at))
+            let (missed, next) = missed(bytes, behind)?;
+            *row = Row::Missed(missed);
+            Some(next)
         }
         b'F' => {
-            let (state, at) = final_state(bytes, behind)?;
-            Some((Row::Final(state), at))
+            let (state, next) = final_state(bytes, behind)?;
+            *row = Row::Final(state);
+            Some(next)
         }
         b'A' => {
-            let (activity, at) = activity(bytes, behind)?;
-            Some((Row::Activity(activity), at))
+            let (activity, next) = activity(bytes, behind)?;
+            *row = Row::Activity(activity);
+            Some(next)
         }
         b'U' => {
-            let (counts, at) = counts(bytes, behind)?;
-            Some((Row::Counts(counts), at))
+            let (counts, next) = counts(bytes, behind)?;
+            *row = Row::Counts(counts);
+            Some(next)
         }
         _ => None,
     }
@@ -43,6 +61,7 @@ pub(crate) fn row(bytes: &[u8], from: usize) -> Option<(Row, usize)>
 
 /// A G line behind its letter.
 #[tactic(auto, unfolding(crate::specs::ReportReaders::grant_at))]
+#[inline(always)]
 fn grant(bytes: &[u8], from: usize) -> Option<(Grant, usize)>
     requires { HasLineFeed bytes.now from }
     ensures read { option_map (λ found. (found.0, drop found.1 bytes.now)) result ≡ spec.grant_at (drop from bytes.now) }

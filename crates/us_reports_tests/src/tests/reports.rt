@@ -2,7 +2,7 @@ use super::base::{Case, FIRST, compare, count_of, same};
 use std::alloc::Global;
 use std::fmt;
 use us_output::{EntryWord, FinalActivity, FinalState, Grant, Row, TraceCounts};
-use us_reports::{ReportFault, line_at, lines_end, report_rows};
+use us_reports::{ANY_ROW, ReportFault, line_at, lines_end, read_line, report_rows};
 
 /// The report of the stored run.
 static STORED: [u8; 51] = *b"G,1,1,req,1,0,0,291,10,0,32,1000\nF,1,0,0,-\nU,0,0,0\n";
@@ -57,6 +57,42 @@ fn every_place(rt: HostRuntime) {
             _ => None,
         };
         same(&rt, &(place, found), &(place, wanted), "a place");
+    }
+}
+
+/// Lines of each kind, some after one of their kind and some after one of another.
+const KINDS: &[u8] = b"\
+    G,1,2,ugs,3,4,5,6,7,8,9,10\nM,1,2,ad,3,4,5\nG,11,2,req,1,0,0,291,10,0,32,1000\n\
+    G,11,21,nrtp,1,0,0,291,10,0,32,0\nF,1,0,0,-\nF,1,0,0,7\nA,1,1\nM,1,2,station,0,0,0\nU,0,0,0\n";
+
+/// Each line is written over the row of the one before, and nothing of that is left.
+#[test]
+fn one_over_another(rt: HostRuntime) {
+    let end = lines_end(KINDS);
+    let mut row = ANY_ROW;
+    let mut at = 0;
+    for _ in 0..9 {
+        let next = read_line(KINDS, end, at, &mut row);
+        let found = next.map(|next| (row, next));
+        same(&rt, &(at, found), &(at, line_at(KINDS, end, at)), "a line");
+        at = next.unwrap_or(at);
+    }
+    same(&rt, &at, &end, "the end");
+}
+
+/// Where no line begins, none is answered.
+#[test]
+fn no_line(rt: HostRuntime) {
+    let mut row = ANY_ROW;
+    for text in [
+        b"".as_slice(),
+        b"\n",
+        b"G,1,2\n",
+        b"M,1,2,req,3,4,5\n",
+        b"X\n",
+    ] {
+        let found = read_line(text, lines_end(text), 0, &mut row);
+        same(&rt, &(text, found), &(text, None), "a text");
     }
 }
 
