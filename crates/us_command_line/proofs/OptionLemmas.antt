@@ -77,16 +77,18 @@ pub number_any : (rows : List Row) (option : Text) (result : Option ℕ) → IfS
 number_any rows option None some none = none
 number_any rows option (Some n) some none = some
 
--- without a number there is no check, and no replay
+-- without a number there is no check, and without a check or a number no replay
 pub no_rounds_no_check : (rows : List Row) (r : Option FileCheck) → ((n : ℕ) → ¬ (HasNumber rows (codes "rounds") n))
     → IfNone r ((files : FileCheck) → ¬ (IsCheckOf rows files))
 no_rounds_no_check rows None none = λ files h. none files.rounds h.rounds
 no_rounds_no_check rows (Some o) none = cc
 
-pub no_rounds_no_replay : (rows : List Row) (r : Option FileReplay) → ((n : ℕ) → ¬ (HasNumber rows (codes "rounds") n))
+pub no_check_no_replay : (rows : List Row) (r : Option FileReplay) → ((files : FileCheck) → ¬ (IsCheckOf rows files))
     → IfNone r ((files : FileReplay) → ¬ (IsReplayOf rows files))
-no_rounds_no_replay rows None none = λ files h. none files.rounds h.rounds
-no_rounds_no_replay rows (Some o) none = cc
+no_check_no_replay rows (Some o) none = cc
+no_check_no_replay rows None none = λ files h.
+    let check : FileCheck = record { config = files.config; trace = files.trace; rounds = files.rounds; maps = files.maps; report = files.report } in
+    none check (record { config = h.config; trace = h.trace; rounds = h.rounds; maps = h.maps; report = h.report })
 
 pub no_workers_no_replay : (rows : List Row) (r : Option FileReplay) → ((n : ℕ) → ¬ (HasNumber rows (codes "workers") n))
     → IfNone r ((files : FileReplay) → ¬ (IsReplayOf rows files))
@@ -123,37 +125,37 @@ no_order name rows replay check lint dump pipe (order.Dump path) h = dump h.0 pa
 no_order name rows replay check lint dump pipe (order.Pipe rounds workers) h = pipe h.0 h.1 h.2 h.3 rounds workers h.4 h.5
 no_order name rows replay check lint dump pipe (order.Help text) h = h
 
-pub no_replay : (given : ArgMatches) (r : Option Order) (name : Text) (rows : List Row) → subcommand_rows_of given ≡ Some (name, rows)
-    → name ≡ codes "replay" → ((files : FileReplay) → ¬ (IsReplayOf rows files)) → IfNone r ((o : Order) → ¬ (IsOrderAt (subcommand_rows_of given) o))
-no_replay given (Some o) name rows e is none = cc
-no_replay given None name rows e is none = rw e (no_order name rows (λ _. none)
+pub no_replay : (r : Option Order) (name : Text) (rows : List Row)
+    → name ≡ codes "replay" → ((files : FileReplay) → ¬ (IsReplayOf rows files)) → IfNone r ((o : Order) → ¬ (IsOrderOf name rows o))
+no_replay (Some o) name rows is none = cc
+no_replay None name rows is none = no_order name rows (λ _. none)
     (λ n. let bad : codes "check" ≡ codes "replay" = sym n ∙ is in cc)
     (λ n. let bad : codes "lint" ≡ codes "replay" = sym n ∙ is in cc)
-    (λ n. let bad : codes "dump" ≡ codes "replay" = sym n ∙ is in cc) (λ n _ _ _. absurd (n is)))
+    (λ n. let bad : codes "dump" ≡ codes "replay" = sym n ∙ is in cc) (λ n _ _ _. absurd (n is))
 
-pub no_check : (given : ArgMatches) (r : Option Order) (name : Text) (rows : List Row) → subcommand_rows_of given ≡ Some (name, rows)
-    → name ≡ codes "check" → ((files : FileCheck) → ¬ (IsCheckOf rows files)) → IfNone r ((o : Order) → ¬ (IsOrderAt (subcommand_rows_of given) o))
-no_check given (Some o) name rows e is none = cc
-no_check given None name rows e is none = rw e (no_order name rows
+pub no_check : (r : Option Order) (name : Text) (rows : List Row)
+    → name ≡ codes "check" → ((files : FileCheck) → ¬ (IsCheckOf rows files)) → IfNone r ((o : Order) → ¬ (IsOrderOf name rows o))
+no_check (Some o) name rows is none = cc
+no_check None name rows is none = no_order name rows
     (λ n. let bad : codes "replay" ≡ codes "check" = sym n ∙ is in cc) (λ _. none)
     (λ n. let bad : codes "lint" ≡ codes "check" = sym n ∙ is in cc)
-    (λ n. let bad : codes "dump" ≡ codes "check" = sym n ∙ is in cc) (λ _ n _ _. absurd (n is)))
+    (λ n. let bad : codes "dump" ≡ codes "check" = sym n ∙ is in cc) (λ _ n _ _. absurd (n is))
 
-pub no_lint : (given : ArgMatches) (r : Option Order) (name : Text) (rows : List Row) → subcommand_rows_of given ≡ Some (name, rows)
-    → name ≡ codes "lint" → ((files : FileLint) → ¬ (IsLintOf rows files)) → IfNone r ((o : Order) → ¬ (IsOrderAt (subcommand_rows_of given) o))
-no_lint given (Some o) name rows e is none = cc
-no_lint given None name rows e is none = rw e (no_order name rows
+pub no_lint : (r : Option Order) (name : Text) (rows : List Row)
+    → name ≡ codes "lint" → ((files : FileLint) → ¬ (IsLintOf rows files)) → IfNone r ((o : Order) → ¬ (IsOrderOf name rows o))
+no_lint (Some o) name rows is none = cc
+no_lint None name rows is none = no_order name rows
     (λ n. let bad : codes "replay" ≡ codes "lint" = sym n ∙ is in cc)
     (λ n. let bad : codes "check" ≡ codes "lint" = sym n ∙ is in cc) (λ _. none)
-    (λ n. absurd (dump_is_not_lint (sym n ∙ is))) (λ _ _ n _. absurd (n is)))
+    (λ n. absurd (dump_is_not_lint (sym n ∙ is))) (λ _ _ n _. absurd (n is))
 
-pub no_pipe : (given : ArgMatches) (r : Option Order) (name : Text) (rows : List Row) → subcommand_rows_of given ≡ Some (name, rows)
+pub no_pipe : (r : Option Order) (name : Text) (rows : List Row)
     → name ≢ codes "replay" → name ≢ codes "check" → name ≢ codes "lint" → name ≢ codes "dump"
     → ((rounds workers : ℕ) → HasNumber rows (codes "rounds") rounds → ¬ (HasNumber rows (codes "workers") workers))
-    → IfNone r ((o : Order) → ¬ (IsOrderAt (subcommand_rows_of given) o))
-no_pipe given (Some o) name rows e not_replay not_check not_lint not_dump none = cc
-no_pipe given None name rows e not_replay not_check not_lint not_dump none = rw e (no_order name rows
-    (λ n. absurd (not_replay n)) (λ n. absurd (not_check n)) (λ n. absurd (not_lint n)) (λ n. absurd (not_dump n)) (λ _ _ _ _. none))
+    → IfNone r ((o : Order) → ¬ (IsOrderOf name rows o))
+no_pipe (Some o) name rows not_replay not_check not_lint not_dump none = cc
+no_pipe None name rows not_replay not_check not_lint not_dump none = no_order name rows
+    (λ n. absurd (not_replay n)) (λ n. absurd (not_check n)) (λ n. absurd (not_lint n)) (λ n. absurd (not_dump n)) (λ _ _ _ _. none)
 
 -- options that may be left out are there in both of two lints, or in none
 texts_alike : (wanted : Option Text) (a b : Option (Bor Text)) → option_map (λ t. t.now) a ≡ wanted → option_map (λ t. t.now) b ≡ wanted

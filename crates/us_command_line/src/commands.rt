@@ -194,11 +194,8 @@ const WORKERS: CommandOption = CommandOption {
 
 /// The command line, for clap.
 pub fn command<'a>(alloc: Global, helps: &'a Helps) -> Result<Command<'a>, AllocError> {
-    let mut command = program(alloc, helps.program);
-    for (subcommand, help) in &subcommands(helps) {
-        command = command.subcommand(subcommand_of(alloc, subcommand, help)?)?;
-    }
-    Ok(command)
+    let subcommands = subcommands(alloc, helps)?;
+    program(alloc, helps.program).subcommands(subcommands)
 }
 
 /// The program, without its subcommands.
@@ -211,8 +208,17 @@ fn program<'a>(alloc: Global, after_help: &'a str) -> Command<'a> {
         .subcommand_required(true)
 }
 
-/// The subcommands in the order in which help lists them, each with what its help says after the options.
-fn subcommands(helps: &Helps) -> [(&'static Subcommand, &str); 5] {
+/// The subcommands in the order in which help lists them.
+fn subcommands<'a>(alloc: Global, helps: &'a Helps) -> Result<Vec<Command<'a>>, AllocError> {
+    let mut subcommands = Vec::new(alloc);
+    for (subcommand, help) in &listed(helps) {
+        subcommands.push(subcommand_of(alloc, subcommand, help)?)?;
+    }
+    Ok(subcommands)
+}
+
+/// What each of them is, and what its help says after the options.
+fn listed(helps: &Helps) -> [(&'static Subcommand, &str); 5] {
     [
         (&REPLAY, helps.replay.as_str()),
         (&CHECK, helps.check.as_str()),
@@ -228,16 +234,23 @@ fn subcommand_of<'a>(
     subcommand: &Subcommand,
     after_help: &'a str,
 ) -> Result<Command<'a>, AllocError> {
-    let mut command = Command::new(alloc, subcommand.name)
+    let args = args_of(alloc, subcommand.options)?;
+    let command = Command::new(alloc, subcommand.name)
         .about(subcommand.about)
         .after_long_help(after_help);
-    if let Some(usage) = subcommand.usage {
-        command = command.override_usage(usage);
+    match subcommand.usage {
+        Some(usage) => command.override_usage(usage).args(args),
+        None => command.args(args),
     }
-    for option in subcommand.options {
-        command = command.arg(arg_of(alloc, option))?;
+}
+
+/// The options of a subcommand.
+fn args_of<'a>(alloc: Global, options: &[CommandOption]) -> Result<Vec<Arg<'a>>, AllocError> {
+    let mut args = Vec::new(alloc);
+    for option in options {
+        args.push(arg_of(alloc, option))?;
     }
-    Ok(command)
+    Ok(args)
 }
 
 fn arg_of<'a>(alloc: Global, option: &CommandOption) -> Arg<'a> {

@@ -1,7 +1,7 @@
 ghost use Rattle.std.specs.Prelude.{◌≡◌, ◌≢◌, ◌⊎◌, ◌<◌, ℕ, length, Ok, Err, OnOk, IfOk, IfErr, IfNone, IfSome};
 ghost use Rattle.clap.specs.Words.{Text, found_of, kind_of, rows_of, subcommand_rows_of};
 ghost use Rattle.clap.specs.declared.error.kind.ErrorKind.TheVariants as kind;
-ghost use Rattle.us_command_line.specs.Options.{HasNumber, HasText, IsCheckOf, IsHelp, IsLintOf, IsOrderAt, IsReplayOf};
+ghost use Rattle.us_command_line.specs.Options.{HasNumber, HasText, IsCheckOf, IsHelp, IsLintOf, IsOrderAt, IsOrderOf, IsReplayOf};
 ghost use Rattle.us_command_line.specs.Options.{MayHaveNumber, MayHaveText, OptionsGoTogether};
 ghost use Rattle.us_command_line.specs.declared.faults.WordsFault.TheVariants as fault;
 ghost use Rattle.us_command_line.specs.declared.orders.FileCheck.{FileCheck};
@@ -117,6 +117,14 @@ fn order_in<'a>(given: &ArgMatches<'a>) -> Option<Order<'a>>
     ensures none { IfNone result ((o : Order) → ¬ (IsOrderAt (subcommand_rows_of given.now) o)) }
 {
     let (name, options) = given.subcommand()?;
+    order_named(name, options)
+}
+
+/// What the subcommand of this name asks for by these options.
+fn order_named<'a>(name: &str, options: &ArgMatches<'a>) -> Option<Order<'a>>
+    ensures some { IfSome result (IsOrderOf name.now (rows_of (found_of options.now))) }
+    ensures none { IfNone result ((o : Order) → ¬ (IsOrderOf name.now (rows_of (found_of options.now)) o)) }
+{
     match name {
         "replay" => Some(Order::Replay(file_replay(options)?)),
         "check" => Some(Order::Check(file_check(options)?)),
@@ -129,23 +137,24 @@ fn order_in<'a>(given: &ArgMatches<'a>) -> Option<Order<'a>>
     }
 }
 
-/// The files and numbers of a replay.
+/// The files and numbers of a replay: those of a check, and the workers.
 fn file_replay<'a>(options: &ArgMatches<'a>) -> Option<FileReplay<'a>>
     ensures some { IfSome result (IsReplayOf (rows_of (found_of options.now))) }
     ensures none { IfNone result ((files : FileReplay) →
         ¬ (IsReplayOf (rows_of (found_of options.now)) files)) }
 {
+    let files = file_check(options)?;
     Some(FileReplay {
-        config: text_of(options, "config")?,
-        trace: text_of(options, "trace")?,
-        rounds: number_of(options, "rounds")?,
+        config: files.config,
+        trace: files.trace,
+        rounds: files.rounds,
         workers: number_of(options, "workers")? as usize,
-        maps: text_of(options, "maps")?,
-        report: text_of(options, "report")?,
+        maps: files.maps,
+        report: files.report,
     })
 }
 
-/// Those of a check.
+/// The files and the number of a check.
 fn file_check<'a>(options: &ArgMatches<'a>) -> Option<FileCheck<'a>>
     ensures some { IfSome result (IsCheckOf (rows_of (found_of options.now))) }
     ensures none { IfNone result ((files : FileCheck) →

@@ -2,13 +2,15 @@ ghost use Rattle.std.specs.Prelude.{◌≡◌, ◌<◌, IfOk, IfSome, length};
 ghost use Rattle.us_findings.specs.ConfigErrors.{IsConfigLint};
 ghost use Rattle.us_findings.specs.declared.findings.What.TheVariants as found;
 
+use crate::documents::TOP;
 use crate::findings::{Finding, Findings, Source, What};
 use crate::lists::Drafts;
 use crate::located::located;
 use crate::rules::explained;
+use crate::spots::KeyPath;
 use crate::tables::add_shapes;
-use crate::texts::{alone, no_document, too_long_config};
-use std::alloc::{AllocError, Global};
+use crate::texts::{no_document, too_long};
+use std::alloc::Global;
 use toml::Table;
 use us_flows::{Config, ConfigFault, MAX_CONFIG_BYTES};
 use us_slots::NoMemory;
@@ -32,8 +34,7 @@ fn errors_of(alloc: Global, text: &[u8], fault: ConfigFault) -> Result<Findings,
     ensures { IfOk result (λ findings. findings.first.what ≡ found.Config fault) }
 {
     if text.len() > MAX_CONFIG_BYTES {
-        let findings = too_long_config(alloc)?;
-        return Ok(alone(alloc, findings.first, fault));
+        return too_long(alloc, fault);
     }
     match toml::table_from_slice(alloc, text) {
         Ok(document) => errors_in(alloc, text, &document, fault),
@@ -50,9 +51,9 @@ fn errors_in(
 ) -> Result<Findings, NoMemory>
     ensures { IfOk result (λ findings. findings.first.what ≡ found.Config fault) }
 {
-    let drafts = drafts_of(alloc, document, fault)?;
+    let drafts = drafts_of(alloc, document, fault);
     let findings = located(alloc, text, &drafts)?;
-    Ok(with_first(alloc, findings, fault, drafts.more)?)
+    with_first(alloc, findings, fault, drafts.more)
 }
 
 /// These errors and so many more, the first of this fault before the others.
@@ -61,7 +62,7 @@ fn with_first(
     mut findings: Vec<Finding>,
     fault: ConfigFault,
     more: usize,
-) -> Result<Findings, AllocError>
+) -> Result<Findings, NoMemory>
     ensures { IfOk result (λ findings. findings.first.what ≡ found.Config fault) }
 {
     let first = take_first(alloc, &mut findings, fault)?;
@@ -73,26 +74,16 @@ fn with_first(
 }
 
 /// What is wrong with a document: why it has this fault, and the shapes of all tables.
-fn drafts_of<'d>(
-    alloc: Global,
-    document: &'d Table,
-    fault: ConfigFault,
-) -> Result<Drafts<'d>, NoMemory> {
+fn drafts_of<'d>(alloc: Global, document: &'d Table, fault: ConfigFault) -> Drafts<'d> {
     let mut drafts = Drafts::new(alloc, fault);
-    let mut other = None;
+    let mut other = KeyPath::of(TOP, None);
     if let Some(first) = explained(document, fault) {
-        other = first.other;
+        other = first.other.unwrap_or(other);
         drafts.push(first);
     }
     add_shapes(&mut drafts, document);
-    if let Some(path) = other {
-        drafts.look_for(path);
-    }
-    if drafts.lacks_memory {
-        Err(NoMemory)
-    } else {
-        Ok(drafts)
-    }
+    drafts.look_for(other);
+    drafts
 }
 
 /// Takes the first of these findings that is of this fault.
@@ -100,7 +91,7 @@ fn take_first(
     alloc: Global,
     findings: &mut Vec<Finding>,
     fault: ConfigFault,
-) -> Result<Finding, AllocError> {
+) -> Result<Finding, NoMemory> {
     match place_of(findings, fault) {
         Some(place) => Ok(findings.remove(place)),
         // Nobody comes here: each fault of a document has a finding.

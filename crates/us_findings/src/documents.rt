@@ -1,4 +1,4 @@
-use crate::titles::{Title, words_of};
+use crate::titles::Title;
 use toml::{Table, Value};
 use us_flows::{Place, TableName};
 
@@ -54,54 +54,39 @@ pub(crate) fn items_before(document: &Table, place: Place) -> &[Value] {
 pub(crate) fn table_at(document: &Table, place: Place) -> Option<&Table> {
     match place.table {
         TableName::Top => Some(document),
-        list => match items_of(document, list).get(place.index as usize) {
-            Some(item) => item.as_table(),
-            None => None,
-        },
+        list => {
+            let item = items_of(document, list).get(place.index as usize);
+            item.and_then(Value::as_table)
+        }
     }
 }
 
 /// What a finding calls a table that stands at a place.
 pub(crate) fn title_of(table: &Table, place: Place) -> Title {
-    let id = match table.get("id") {
-        Some(Value::Integer(id)) => u64::try_from(*id).ok(),
-        _ => None,
-    };
+    let id = table.get("id").and_then(Value::as_integer).unwrap_or(-1);
     Title {
         place,
-        words: words_of(place, id),
+        id: u64::try_from(id).ok(),
         profile: None,
     }
 }
 
 /// A whole number from 0 on; 0 for all other values.
 pub(crate) fn number_of(value: &Value) -> u64 {
-    match value.as_integer() {
-        Some(number) => u64::try_from(number).unwrap_or(0),
-        None => 0,
-    }
+    u64::try_from(value.as_integer().unwrap_or(0)).unwrap_or(0)
 }
 
 /// The number of a key.
 pub(crate) fn number_at(table: &Table, key: &str) -> u64 {
-    match table.get(key) {
-        Some(value) => number_of(value),
-        None => 0,
-    }
+    table.get(key).map_or(0, number_of)
 }
 
 /// The values of a list; none for all other values.
 pub(crate) fn values_of(value: &Value) -> &[Value] {
-    match value.as_array() {
-        Some(values) => values,
-        None => &[],
-    }
+    value.as_array().map_or(&[], Vec::as_slice)
 }
 
 /// The values of the list of a key.
 pub(crate) fn values_at<'a>(table: &'a Table, key: &str) -> &'a [Value] {
-    match table.get(key) {
-        Some(value) => values_of(value),
-        None => &[],
-    }
+    table.get(key).map_or(&[], values_of)
 }

@@ -1,4 +1,4 @@
-use crate::documents::list_at;
+use crate::documents::{list_at, values_of};
 use crate::hints::{Hint, hint_of};
 use crate::keys::Keys;
 use crate::sentences::Sentence;
@@ -65,20 +65,17 @@ impl<'a> Draft<'a> {
 
     /// A table lacks a key of this rule.
     pub(crate) fn missing(title: Title, key: &'a str, rule: Rule) -> Draft<'a> {
-        Draft {
-            fault: ConfigFault::Missing(title.place),
-            path: title.path(),
-            around: [": the key ", " is missing, "],
-            ..Draft::of_key(title, key, wanted(rule), WANTED)
-        }
+        let mut draft = Draft::of_key(title, key, wanted(rule), WANTED);
+        draft.fault = ConfigFault::Missing(title.place);
+        draft.path = title.path();
+        draft.around = [": the key ", " is missing, "];
+        draft
     }
 
     /// The value of a key breaks its rule. Of too many tables it stands at the first that is too many.
     pub(crate) fn wrong(title: Title, key: &'a str, rule: Rule, value: &'a Value) -> Draft<'a> {
-        let mut draft = Draft {
-            value: Some((rule, value)),
-            ..Draft::of_key(title, key, wanted(rule), WANTED)
-        };
+        let mut draft = Draft::of_key(title, key, wanted(rule), WANTED);
+        draft.value = Some((rule, value));
         if let Some(first) = too_many(key, rule, value) {
             draft.path = KeyPath::of(first, None);
         }
@@ -103,28 +100,34 @@ impl<'a> Draft<'a> {
 
 /// The first table of a list that is too many, where there are too many.
 fn too_many(key: &str, rule: Rule, value: &Value) -> Option<Place> {
-    let (Rule::Tables(_, many), Value::Array(items)) = (rule, value) else {
+    let Rule::Tables(_, many) = rule else {
         return None;
     };
-    if items.len() <= many as usize {
-        return None;
+    match list_at(key) {
+        Some((_, table)) if values_of(value).len() > many as usize => {
+            Some(Place { table, index: many })
+        }
+        _ => None,
     }
-    let (_, table) = list_at(key)?;
-    Some(Place { table, index: many })
 }
 
 /// Writes the title of the table, and what is wrong with it.
 impl fmt::Display for Draft<'_> {
     fn fmt<W: fmt::Write>(&self, f: &mut fmt::Formatter<W>) -> fmt::Result {
-        let (title, comma, profile) = match self.title.profile {
-            Some(profile) => (self.title.words, ", ", profile),
-            None => (self.title.words, "", ""),
+        let (comma, profile) = match self.title.profile {
+            Some(profile) => (", ", profile),
+            None => ("", ""),
         };
-        let (key, [before, behind]) = (ShownKey(self.key), self.around);
-        let (sentence, words, meant) = (self.sentence, self.hint.words, self.hint.key);
         write!(
             f,
-            "{title}{comma}{profile}{before}{key}{behind}{sentence}{words}{meant}"
+            "{}{comma}{profile}{}{}{}{}{}{}",
+            self.title.words(),
+            self.around[0],
+            ShownKey(self.key),
+            self.around[1],
+            self.sentence,
+            self.hint.words,
+            self.hint.key
         )
     }
 }

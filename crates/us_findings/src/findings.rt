@@ -52,13 +52,16 @@ pub struct Findings {
 /// Writes a finding as `12:1: error C3: ` or `12:1: warning: ` and its text.
 impl fmt::Display for Finding {
     fn fmt<W: fmt::Write>(&self, f: &mut fmt::Formatter<W>) -> fmt::Result {
-        let (line, column, text) = (self.line, self.column, self.text.as_str());
         let (kind, code) = match self.what {
             What::Config(fault) => ("error ", fault.code()),
             What::Trace(fault) => ("error ", fault.code()),
             What::Warning => ("warning", ""),
         };
-        write!(f, "{line}:{column}: {kind}{code}: {text}")
+        write!(
+            f,
+            "{}:{}: {kind}{code}: {}",
+            self.line, self.column, self.text
+        )
     }
 }
 

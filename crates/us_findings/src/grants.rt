@@ -28,7 +28,7 @@ pub(crate) fn long_grant<'d>(case: &Case<'d>) -> Why<'d> {
         );
     }
     let has_polls = kind_at(case.table) != SchedulingType::UnsolicitedGrant;
-    if has_polls && host.len < number_at(host.table, "request_minislots") {
+    if has_polls & (host.len < number_at(host.table, "request_minislots")) {
         return long_key(
             host,
             "channels",
@@ -49,10 +49,8 @@ pub(crate) fn long_grant<'d>(case: &Case<'d>) -> Why<'d> {
 
 /// The first channel of the flow, or the channel of the station.
 fn host_of<'d>(case: &Case<'d>) -> Host<'d> {
-    let id = match values_at(case.table, "channels").first() {
-        Some(first) => number_of(first),
-        None => case.number("channel"),
-    };
+    let first = values_at(case.table, "channels").first();
+    let id = first.map_or(case.number("channel"), number_of);
     let (place, table) = channel_with(case.document, id).unwrap_or((case.place, case.table));
     Host {
         place,

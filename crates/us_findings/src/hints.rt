@@ -59,8 +59,8 @@ fn flows_of(types: Types) -> &'static str {
 fn near_key(keys: Keys, table: &Table, key: &str) -> Option<&'static str> {
     for place in 0..keys.places() {
         if let Some((name, _)) = keys.at(place) {
-            let is_near = are_near(name.as_bytes(), key.as_bytes()) && table.get(name).is_none();
-            if is_near || name.eq_ignore_ascii_case(key) {
+            let is_near = are_near(name.as_bytes(), key.as_bytes()) & table.get(name).is_none();
+            if is_near | name.eq_ignore_ascii_case(key) {
                 return Some(name);
             }
         }
@@ -73,15 +73,12 @@ fn are_near(one: &[u8], other: &[u8]) -> bool {
     let same = same_start(one, other);
     let (one, other) = (behind(one, same), behind(other, same));
     let (one_rest, other_rest) = (behind(one, 1), behind(other, 1));
-    one_rest == other_rest || one_rest == other || one == other_rest || are_swapped(one, other)
+    (one_rest == other_rest) | (one_rest == other) | (one == other_rest) | are_swapped(one, other)
 }
 
 /// What stands behind so many letters.
 fn behind(text: &[u8], count: usize) -> &[u8] {
-    match text.get(count..) {
-        Some(rest) => rest,
-        None => &[],
-    }
+    text.get(count..).unwrap_or(&[])
 }
 
 /// How many letters both have at their start.

@@ -35,14 +35,10 @@ impl Keys {
     pub(crate) fn at(self, place: usize) -> Option<Key> {
         match self {
             Keys::Listed(keys) => keys.get(place).copied(),
-            Keys::OfFlows(kind) => {
-                let (name, types, rule) = all_flow_keys().get(place).copied()?;
-                if types.have(kind) {
-                    Some((name, rule))
-                } else {
-                    None
-                }
-            }
+            Keys::OfFlows(kind) => match all_flow_keys().get(place) {
+                Some((name, types, rule)) if types.have(kind) => Some((*name, *rule)),
+                _ => None,
+            },
         }
     }
 

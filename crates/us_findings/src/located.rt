@@ -7,7 +7,7 @@ use crate::shown::Shown;
 use crate::spots::Spot;
 use crate::values::{amiss, kind_of};
 use crate::walks::spots_of;
-use std::alloc::{AllocError, Global};
+use std::alloc::Global;
 use us_slots::NoMemory;
 
 /// Findings of a configuration, by their lines. All are looked for in one walk over the text.
@@ -16,8 +16,11 @@ pub(crate) fn located(
     text: &[u8],
     drafts: &Drafts<'_>,
 ) -> Result<Vec<Finding>, NoMemory> {
+    if drafts.lacks_memory {
+        return Err(NoMemory);
+    }
     let spots = spots_of(alloc, str::from_utf8(text).unwrap_or(""), &drafts.paths)?;
-    Ok(findings_at(alloc, text, &drafts.kept, &spots)?)
+    findings_at(alloc, text, &drafts.kept, &spots)
 }
 
 /// Findings at these places, in the order of the text. Those at one place stay in their order.
@@ -26,34 +29,46 @@ fn findings_at(
     text: &[u8],
     drafts: &[Draft<'_>],
     spots: &[Spot],
-) -> Result<Vec<Finding>, AllocError> {
-    let other = spots.get(drafts.len()).copied();
+) -> Result<Vec<Finding>, NoMemory> {
+    let other = spot_at(spots, drafts.len());
     let mut findings = Vec::new(alloc);
     for (place, draft) in drafts.iter().enumerate() {
-        let spot = spots.get(place).copied().unwrap_or(Spot::of(0));
-        findings.push(finding_at(alloc, text, spot, draft, other)?)?;
+        add_finding(
+            &mut findings,
+            alloc,
+            text,
+            spot_at(spots, place),
+            draft,
+            other,
+        )?;
     }
     by_place(&mut findings)?;
     Ok(findings)
 }
 
-/// A finding at a place.
-fn finding_at(
+/// The spot at a place among these.
+fn spot_at(spots: &[Spot], place: usize) -> Spot {
+    spots.get(place).copied().unwrap_or(Spot::of(0))
+}
+
+/// Adds a finding at a place.
+fn add_finding(
+    findings: &mut Vec<Finding>,
     alloc: Global,
     text: &[u8],
     spot: Spot,
     draft: &Draft<'_>,
-    other: Option<Spot>,
-) -> Result<Finding, AllocError> {
+    other: Spot,
+) -> Result<(), NoMemory> {
     let (line, column) = line_and_column(text, spot.at.min(text.len()));
     let (comma, value, words) = behind(text, spot, draft, other);
-    Ok(Finding {
+    Ok(findings.push(Finding {
         source: Source::Config,
         what: What::Config(draft.fault),
         line,
         column,
         text: format!(in alloc; "{draft}{comma}{value}{words}")?,
-    })
+    })?)
 }
 
 /// What stands behind the problem: the value with what is wrong with it, or the line of the other key.
@@ -61,23 +76,25 @@ fn behind<'a>(
     text: &'a [u8],
     spot: Spot,
     draft: &Draft<'_>,
-    other: Option<Spot>,
+    other: Spot,
 ) -> (&'static str, Shown<'a>, Sentence) {
-    if let Some((rule, value)) = draft.value {
-        let shown = match value_at(text, spot) {
-            [] => Shown(kind_of(value).as_bytes()),
-            written => Shown(written),
-        };
-        return (", ", shown, amiss(rule, value));
-    }
-    let words = match other {
-        Some(other) if draft.other.is_some() => {
-            let (line, _) = line_and_column(text, other.at.min(text.len()));
-            Sentence::of(", in line #", line as u64)
-        }
-        _ => Sentence::plain(""),
+    let Some((rule, value)) = draft.value else {
+        return ("", Shown(b""), beside(text, draft, other));
     };
-    ("", Shown(b""), words)
+    let shown = match value_at(text, spot) {
+        [] => kind_of(value).as_bytes(),
+        written => written,
+    };
+    (", ", Shown(shown), amiss(rule, value))
+}
+
+/// The line of the key of another table, if a finding names one.
+fn beside(text: &[u8], draft: &Draft<'_>, other: Spot) -> Sentence {
+    if draft.other.is_none() {
+        return Sentence::plain("");
+    }
+    let (line, _) = line_and_column(text, other.at.min(text.len()));
+    Sentence::of(", in line #", line as u64)
 }
 
 /// The value that stands at a place, as it is written; nothing where it stands at several.

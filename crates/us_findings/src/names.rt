@@ -95,9 +95,7 @@ fn repeated(values: &[Value]) -> u64 {
 fn count_of(values: &[Value], number: u64) -> usize {
     let mut count = 0usize;
     for value in values {
-        if number_of(value) == number {
-            count = count.saturating_add(1);
-        }
+        count = count.saturating_add(usize::from(number_of(value) == number));
     }
     count
 }
@@ -177,9 +175,7 @@ fn shared_sid(flow: &Table, other: &Table, many: usize) -> Option<(u64, u64)> {
 fn times(flow: &Table, sid: (u64, u64)) -> usize {
     let mut times = 0usize;
     for place in 0..sids_of(flow) {
-        if sid_at(flow, place) == Some(sid) {
-            times = times.saturating_add(1);
-        }
+        times = times.saturating_add(usize::from(sid_at(flow, place) == Some(sid)));
     }
     times
 }
@@ -194,12 +190,7 @@ fn sids_of(flow: &Table) -> usize {
 fn sid_at(flow: &Table, place: usize) -> Option<(u64, u64)> {
     let (channels, clusters) = (values_at(flow, "channels"), values_at(flow, "clusters"));
     let width = channels.len().max(1);
-    let sids = match clusters.get(place / width) {
-        Some(cluster) => values_of(cluster),
-        None => &[],
-    };
-    match (channels.get(place % width), sids.get(place % width)) {
-        (Some(channel), Some(sid)) => Some((number_of(channel), number_of(sid))),
-        _ => None,
-    }
+    let sids: &[Value] = clusters.get(place / width).map_or(&[], values_of);
+    let channel = channels.get(place % width).map(number_of);
+    channel.zip(sids.get(place % width).map(number_of))
 }

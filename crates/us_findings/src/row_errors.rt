@@ -33,11 +33,11 @@ pub(crate) struct RowError<'a> {
 
 impl fmt::Display for RowError<'_> {
     fn fmt<W: fmt::Write>(&self, f: &mut fmt::Formatter<W>) -> fmt::Result {
-        let (wanted, more, kind) = (self.wanted, self.more, self.kind);
-        let (found, quote, [before, behind]) = (self.found, self.quote, self.around);
+        let quote = self.quote;
         write!(
             f,
-            "{wanted}{more}{kind}{before}{quote}{found}{quote}{behind}"
+            "{}{}{}{}{quote}{}{quote}{}",
+            self.wanted, self.more, self.kind, self.around[0], self.found, self.around[1]
         )
     }
 }
@@ -78,17 +78,22 @@ pub(crate) fn row_error<'a>(rows: &'a Rows<'_>, columns: usize, fault: TraceFaul
 /// A field is no number in its range; or all are, and the record is a mark and has units.
 fn number_error(fields: &ByteRecord) -> RowError<'_> {
     for (place, (words, greatest)) in COLUMNS.iter().enumerate() {
-        if let Some(field) = fields.get(place) {
-            if number_in(field, *greatest).is_none() {
-                let wanted = Sentence::of(words, u64::from(*greatest));
-                return RowError {
-                    more: form_wanted(field),
-                    ..RowError::of(wanted, field, [" is wanted, ", " is there"])
-                };
+        match fields.get(place) {
+            Some(field) if number_in(field, *greatest).is_none() => {
+                return field_error(Sentence::of(words, u64::from(*greatest)), field);
             }
+            _ => {}
         }
     }
     mark_error(fields)
+}
+
+/// A field is no number in its range.
+fn field_error(wanted: Sentence, field: &[u8]) -> RowError<'_> {
+    RowError {
+        more: form_wanted(field),
+        ..RowError::of(wanted, field, [" is wanted, ", " is there"])
+    }
 }
 
 /// A mark has units.

@@ -15,7 +15,6 @@ const BYTE_ORDER_MARK: &[u8] = b"\xef\xbb\xbf";
 /// The records of a text as `Trace::read` has them, one at a time, each with its line.
 ///
 /// Lines count from 1, and a line feed ends one. A record begins behind blank lines, and may go over several lines.
-#[derive(Drop)]
 pub struct Rows<'a> {
     text: &'a [u8],
     reader: Reader<&'a [u8]>,
@@ -29,6 +28,17 @@ struct Start {
     /// How many bytes come before it.
     at: usize,
     line: usize,
+}
+
+impl Drop for Rows<'_> {
+    fn drop(self) {
+        let Rows {
+            text: _,
+            reader: _,
+            fields: _,
+            start: _,
+        } = self;
+    }
 }
 
 impl<'a> Model for Rows<'a> {
@@ -86,7 +96,7 @@ impl<'a> Rows<'a> {
     pub(crate) fn first_line(&self) -> &'a [u8] {
         let rest = self.text.get(self.start.at..).unwrap_or(&[]);
         for (end, byte) in rest.iter().enumerate() {
-            if *byte == b'\n' || *byte == b'\r' {
+            if (*byte == b'\n') | (*byte == b'\r') {
                 return rest.get(..end).unwrap_or(rest);
             }
         }
@@ -100,7 +110,7 @@ fn next_start(text: &[u8], position: Position) -> Start {
         at: position.byte() as usize,
         line: position.line() as usize,
     };
-    if start.at == 0 && text.starts_with(BYTE_ORDER_MARK) {
+    if (start.at == 0) & text.starts_with(BYTE_ORDER_MARK) {
         start.at = BYTE_ORDER_MARK.len();
     }
     for byte in text.get(start.at..).unwrap_or(&[]) {

@@ -17,15 +17,18 @@ pub(crate) struct Case<'d> {
 
 /// Why a table of a document has this fault; none where that is one of its shape.
 pub(crate) fn explained<'d>(document: &'d Table, fault: ConfigFault) -> Option<Draft<'d>> {
-    let place = fault.place()?;
-    let table = table_at(document, place)?;
+    // A fault of no table has no rule of that kind, and one of a table has it in its place.
+    let place = fault.place().unwrap_or(TOP);
+    let table = table_at(document, place).unwrap_or(document);
     let case = Case {
         document,
         table,
         place,
     };
-    let why = case.why(fault)?;
-    Some(Draft::several(title_of(table, place), fault, why))
+    match case.why(fault) {
+        Some(why) => Some(Draft::several(title_of(table, place), fault, why)),
+        None => None,
+    }
 }
 
 impl<'d> Case<'d> {
@@ -114,10 +117,8 @@ fn round_ticks(document: &Table) -> u64 {
 
 /// The ticks of a channel's minislot.
 fn minislot_ticks(channel: &Table) -> u64 {
-    match u32::try_from(number_at(channel, "minislot_log2")) {
-        Ok(log2) => 1u64.checked_shl(log2).unwrap_or(0),
-        Err(_) => 0,
-    }
+    let log2 = u32::try_from(number_at(channel, "minislot_log2")).unwrap_or(u32::MAX);
+    1u64.checked_shl(log2).unwrap_or(0)
 }
 
 /// The minislots of a channel's MAPs.

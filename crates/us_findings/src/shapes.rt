@@ -3,7 +3,7 @@ use crate::drafts::Draft;
 use crate::keys::Keys;
 use crate::lists::Drafts;
 use crate::titles::Title;
-use toml::Table;
+use toml::{Table, Value};
 use us_flows::{is_optional, keeps};
 
 /// A table of a document, beside the keys that it may have.
@@ -19,14 +19,16 @@ impl<'d> Shape<'d> {
     pub(crate) fn add_to(&self, drafts: &mut Drafts<'d>) {
         self.add_missing(drafts);
         for (key, value) in self.table {
-            match self.keys.rule_of(key) {
-                Some(rule) => {
-                    if !keeps(rule, value) {
-                        drafts.push(Draft::wrong(self.title, key, rule, value));
-                    }
-                }
-                None => drafts.push(Draft::unknown(self.title, key, self.keys, self.table)),
-            }
+            self.add_wrong(drafts, key, value);
+        }
+    }
+
+    /// Adds what is wrong with a key and its value, if something is.
+    fn add_wrong(&self, drafts: &mut Drafts<'d>, key: &'d str, value: &'d Value) {
+        match self.keys.rule_of(key) {
+            Some(rule) if keeps(rule, value) => {}
+            Some(rule) => drafts.push(Draft::wrong(self.title, key, rule, value)),
+            None => drafts.push(Draft::unknown(self.title, key, self.keys, self.table)),
         }
     }
 
@@ -34,18 +36,18 @@ impl<'d> Shape<'d> {
     fn add_missing(&self, drafts: &mut Drafts<'d>) {
         for place in 0..self.keys.places() {
             if let Some((key, rule)) = self.keys.at(place) {
-                if !is_optional(rule) && self.table.get(key).is_none() {
+                if !is_optional(rule) & self.table.get(key).is_none() {
                     drafts.push(Draft::missing(self.title, key, rule));
                 }
             }
         }
     }
 
-    /// The number of a key that keeps its rule; none where it doesn't, or is missing.
-    pub(crate) fn number(&self, key: &str) -> Option<u64> {
+    /// The number of a key that keeps its rule; 0 where it doesn't, or is missing.
+    pub(crate) fn number(&self, key: &str) -> u64 {
         match (self.keys.rule_of(key), self.table.get(key)) {
-            (Some(rule), Some(value)) if keeps(rule, value) => Some(number_of(value)),
-            _ => None,
+            (Some(rule), Some(value)) if keeps(rule, value) => number_of(value),
+            _ => 0,
         }
     }
 }

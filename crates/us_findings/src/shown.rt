@@ -15,7 +15,10 @@ impl fmt::Display for Shown<'_> {
     fn fmt<W: fmt::Write>(&self, f: &mut fmt::Formatter<W>) -> fmt::Result {
         let mut rest = self.0;
         for _ in 0..MAX_SHOWN {
-            rest = write_first(f, rest)?;
+            let character = first_character(rest);
+            write_first(f, rest, character)?;
+            let length = character.map_or(1, char::len_utf8);
+            rest = rest.get(length..).unwrap_or(&[]);
         }
         if rest.is_empty() {
             Ok(())
@@ -32,54 +35,40 @@ pub(crate) struct ShownKey<'a>(pub(crate) &'a str);
 impl fmt::Display for ShownKey<'_> {
     fn fmt<W: fmt::Write>(&self, f: &mut fmt::Formatter<W>) -> fmt::Result {
         let key = self.0.as_bytes();
-        let (shown, quote) = (Shown(key), if is_bare(key) { "" } else { "\"" });
-        write!(f, "{quote}{shown}{quote}")
+        let quote = if is_bare(key) { "" } else { "\"" };
+        write!(f, "{quote}{}{quote}", Shown(key))
     }
 }
 
 /// Whether a key may stand without quotes.
 fn is_bare(key: &[u8]) -> bool {
     for byte in key {
-        if !byte.is_ascii_alphanumeric() && *byte != b'_' && *byte != b'-' {
+        if !byte.is_ascii_alphanumeric() & (*byte != b'_') & (*byte != b'-') {
             return false;
         }
     }
     !key.is_empty()
 }
 
-/// Writes the first character of a text, or its first byte where no character begins. What is left is answered.
-fn write_first<'a, W: fmt::Write>(
+/// Writes the character with which a text begins, or else its first byte, if it has one.
+fn write_first<W: fmt::Write>(
     f: &mut fmt::Formatter<W>,
-    text: &'a [u8],
-) -> Result<&'a [u8], fmt::Error> {
-    let length = match first_character(text) {
-        Some(character) => {
-            write_character(f, character)?;
-            character.len_utf8()
-        }
-        None => {
-            write_byte(f, text)?;
-            1
-        }
-    };
-    Ok(text.get(length..).unwrap_or(&[]))
-}
-
-/// Writes the first byte of a text, if it has one.
-fn write_byte<W: fmt::Write>(f: &mut fmt::Formatter<W>, text: &[u8]) -> fmt::Result {
-    match text.first() {
-        Some(byte) => write!(f, "\\x{byte:02x}"),
-        None => Ok(()),
+    text: &[u8],
+    character: Option<char>,
+) -> fmt::Result {
+    match (character, text.first()) {
+        (Some(character), _) => write_character(f, character),
+        (None, Some(byte)) => write!(f, "\\x{byte:02x}"),
+        (None, None) => Ok(()),
     }
 }
 
-/// The character with which a text begins.
+/// The character with which a text begins, if it begins with one.
 fn first_character(text: &[u8]) -> Option<char> {
     for length in 1..=MAX_CHARACTER {
-        if let Some(start) = text.get(..length) {
-            if let Ok(character) = str::from_utf8(start) {
-                return character.chars().next();
-            }
+        // A text that has fewer bytes has no character either.
+        if let Ok(start) = str::from_utf8(text.get(..length).unwrap_or(&[])) {
+            return start.chars().next();
         }
     }
     None
@@ -100,13 +89,7 @@ fn write_character<W: fmt::Write>(f: &mut fmt::Formatter<W>, character: char) ->
         '\n' => f.write_str("\\n"),
         '\r' => f.write_str("\\r"),
         '\t' => f.write_str("\\t"),
-        _ => {
-            if is_hidden(character) {
-                let number = u32::from(character);
-                write!(f, "\\u{{{number:x}}}")
-            } else {
-                write!(f, "{character}")
-            }
-        }
+        _ if is_hidden(character) => write!(f, "\\u{{{:x}}}", u32::from(character)),
+        _ => f.write_char(character),
     }
 }

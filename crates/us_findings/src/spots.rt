@@ -77,13 +77,14 @@ impl<'a> Found<'a> {
     /// stays.
     pub(crate) fn meet(&mut self, met: KeyPath<'_>, spot: Spot) {
         let wanted = self.wanted;
-        if self.is_own || wanted.place != met.place {
+        if self.is_own | (wanted.place != met.place) {
             return;
         }
-        if wanted.profile == met.profile && wanted.key == met.key {
+        let is_its_profile = met.profile.is_none() & (wanted.profile == met.key);
+        if (wanted.profile == met.profile) & (wanted.key == met.key) {
             self.spot = spot;
             self.is_own = true;
-        } else if met.key.is_none() || (met.profile.is_none() && wanted.profile == met.key) {
+        } else if met.key.is_none() | is_its_profile {
             self.spot.at = spot.at;
         }
     }

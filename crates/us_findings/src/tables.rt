@@ -93,9 +93,9 @@ fn add_profile<'d>(
     }
 }
 
-/// That the codewords of a profile are too long, though both numbers keep their rules.
+/// That the codewords of a profile are too long, though both numbers keep their rules. One of them alone is short enough.
 fn long_codeword<'a>(profile: &Shape<'_>) -> Option<Why<'a>> {
-    let (data, most) = (profile.number("fec_k")?, profile.number("fec_t")?);
+    let (data, most) = (profile.number("fec_k"), profile.number("fec_t"));
     let bytes = data.saturating_add(most.saturating_mul(2));
     if bytes <= MAX_CODEWORD {
         return None;

@@ -14,18 +14,25 @@ use us_slots::NoMemory;
 pub fn too_long_config(alloc: Global) -> Result<Findings, NoMemory>
     ensures { IfOk result (λ findings. findings.first.what ≡ found.Config Text) }
 {
+    too_long(alloc, ConfigFault::Text)
+}
+
+/// The same, under this fault.
+pub(crate) fn too_long(alloc: Global, fault: ConfigFault) -> Result<Findings, NoMemory>
+    ensures { IfOk result (λ findings. findings.first.what ≡ found.Config fault) }
+{
     let finding = Finding {
         source: Source::Config,
-        what: What::Config(ConfigFault::Text),
+        what: What::Config(fault),
         line: 1,
         column: 1,
         text: format!(in alloc; "at most {MAX_CONFIG_BYTES} bytes are wanted, more are there")?,
     };
-    Ok(alone(alloc, finding, ConfigFault::Text))
+    Ok(alone(alloc, finding, fault))
 }
 
 /// One error alone.
-pub(crate) fn alone(alloc: Global, finding: Finding, fault: ConfigFault) -> Findings
+fn alone(alloc: Global, finding: Finding, fault: ConfigFault) -> Findings
     ensures { result.first.what ≡ found.Config fault }
 {
     Findings {

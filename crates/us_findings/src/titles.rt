@@ -7,8 +7,8 @@ use us_flows::{Place, TableName};
 pub(crate) struct Title {
     /// The channel, the flow or the station that it is, or that it is a profile of.
     pub(crate) place: Place,
-    /// What that is called.
-    pub(crate) words: Sentence,
+    /// The id of that, if it has one.
+    pub(crate) id: Option<u64>,
     /// The key of the profile that it is.
     pub(crate) profile: Option<&'static str>,
 }
@@ -19,6 +19,23 @@ impl Title {
         KeyPath::of(self.place, self.profile)
     }
 
+    /// What it is called, without the profile.
+    pub(crate) fn words(self) -> Sentence {
+        let words = match (self.place.table, self.id.is_some()) {
+            (TableName::Top, _) => "the top level",
+            (TableName::Channel, false) => "channel #",
+            (TableName::Channel, true) => "channel # (id #)",
+            (TableName::Flow, false) => "flow #",
+            (TableName::Flow, true) => "flow # (id #)",
+            (TableName::Station, false) => "station #",
+            (TableName::Station, true) => "station # (id #)",
+        };
+        Sentence(
+            words,
+            [u64::from(self.place.index), self.id.unwrap_or(0), 0, 0],
+        )
+    }
+
     /// Where a key of it stands.
     pub(crate) fn path_of<'a>(self, key: &'a str) -> KeyPath<'a> {
         KeyPath {
@@ -27,18 +44,4 @@ impl Title {
             key: Some(key),
         }
     }
-}
-
-/// What a table is called that has this id, or none.
-pub(crate) fn words_of(place: Place, id: Option<u64>) -> Sentence {
-    let words = match (place.table, id.is_some()) {
-        (TableName::Top, _) => "the top level",
-        (TableName::Channel, false) => "channel #",
-        (TableName::Channel, true) => "channel # (id #)",
-        (TableName::Flow, false) => "flow #",
-        (TableName::Flow, true) => "flow # (id #)",
-        (TableName::Station, false) => "station #",
-        (TableName::Station, true) => "station # (id #)",
-    };
-    Sentence(words, [u64::from(place.index), id.unwrap_or(0), 0, 0])
 }

@@ -63,11 +63,20 @@ fn finding(fault: TraceFault, line: usize, text: String) -> Finding
 }
 
 /// The errors of records: the first ones are told, the others counted.
-#[derive(Drop)]
 struct Told {
     alloc: Global,
     findings: Vec<Finding>,
     more: usize,
+}
+
+impl Drop for Told {
+    fn drop(self) {
+        let Told {
+            alloc: _,
+            findings: _,
+            more: _,
+        } = self;
+    }
 }
 
 impl Told {

@@ -50,34 +50,29 @@ fn numbers(words: &'static str, [a, b, c, d]: [u32; 4]) -> Sentence {
 
 /// What stands behind a value that breaks a rule: which item of a list breaks it, or how many there are.
 pub(crate) fn amiss(rule: Rule, value: &Value) -> Sentence {
-    let (fewest, many, each) = match rule {
-        Rule::Numbers(fewest, many, least, most) => (fewest, many, Rule::Number(least, most)),
-        Rule::Lists(fewest, many, least, most) => {
-            (fewest, many, Rule::Numbers(0, u32::MAX, least, most))
+    match (rule, value.as_array()) {
+        (Rule::Numbers(fewest, many, least, most), Some(items)) => {
+            amiss_in(items, fewest, many, Rule::Number(least, most))
         }
-        Rule::Tables(fewest, many) => (fewest, many, Rule::Table),
-        _ => return Sentence::plain(" is there"),
-    };
-    let Some(items) = value.as_array() else {
-        return Sentence::plain(" is there");
-    };
-    if items.len() < fewest as usize || (many as usize) < items.len() {
-        return Sentence::of(" is there: its length is #", items.len() as u64);
-    }
-    match wrong_item(each, items) {
-        Some(place) => Sentence::of(" is there: item # is wrong", place as u64),
-        None => Sentence::plain(" is there"),
+        (Rule::Lists(fewest, many, least, most), Some(items)) => {
+            amiss_in(items, fewest, many, Rule::Numbers(0, u32::MAX, least, most))
+        }
+        (Rule::Tables(fewest, many), Some(items)) => amiss_in(items, fewest, many, Rule::Table),
+        _ => Sentence::plain(" is there"),
     }
 }
 
-/// The first of these items that breaks a rule, counted from 1.
-fn wrong_item(rule: Rule, items: &[Value]) -> Option<usize> {
+/// The same of a list that has to have so many items, each by a rule.
+fn amiss_in(items: &[Value], fewest: u32, many: u32, each: Rule) -> Sentence {
+    if (items.len() < fewest as usize) | ((many as usize) < items.len()) {
+        return Sentence::of(" is there: its length is #", items.len() as u64);
+    }
     for (place, item) in items.iter().enumerate() {
-        if !keeps(rule, item) {
-            return Some(place.saturating_add(1));
+        if !keeps(each, item) {
+            return Sentence::of(" is there: item # is wrong", place.saturating_add(1) as u64);
         }
     }
-    None
+    Sentence::plain(" is there")
 }
 
 /// What a value is that is not written at one place, but below a header or dotted keys.

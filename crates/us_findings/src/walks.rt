@@ -6,7 +6,7 @@ use crate::documents::list_at;
 use crate::scopes::Scope;
 use crate::spots::{Found, KeyPath, Spot};
 use crate::tokens::{behind_value, key_before};
-use std::alloc::{AllocError, Global};
+use std::alloc::Global;
 use toml_parser::text::{byte_at, first, skip, skip_blank, skip_ws};
 use toml_parser::{Key, ParseError};
 use us_flows::{Place, TableName};
@@ -19,7 +19,7 @@ pub fn spots_of(alloc: Global, text: &str, wanted: &[KeyPath<'_>]) -> Result<Vec
     ensures within { IfOk result (λ spots. All (IsWithin (length text.now)) spots.items) }
 {
     let found = found_in(alloc, text, wanted)?;
-    Ok(spots_in(alloc, &found, wanted.len(), text.len())?)
+    spots_in(alloc, &found, wanted.len(), text.len())
 }
 
 /// So many spots of what was found in a text of so many bytes.
@@ -28,7 +28,7 @@ fn spots_in(
     found: &[Found<'_>],
     count: usize,
     len: usize,
-) -> Result<Vec<Spot>, AllocError>
+) -> Result<Vec<Spot>, NoMemory>
     ensures count { IfOk result (λ spots. length spots.items ≡ count) }
     ensures within { IfOk result (λ spots. All (IsWithin len) spots.items) }
 {
@@ -99,20 +99,17 @@ impl<'t> Walk<'t, '_> {
             if rest.is_empty() {
                 break;
             }
-            rest = match self.open.last().copied() {
-                None => self.line(rest)?,
-                Some(open) => self.member(open, rest)?,
-            };
+            rest = self.step(rest)?;
         }
         Ok(())
     }
 
-    /// A header, or a key below the last one: what stands behind.
-    fn line(&mut self, start: &'t str) -> Result<&'t str, ParseError> {
-        if first(start) == b'[' {
-            self.header(start)
-        } else {
-            self.pair(self.section, start)
+    /// A header, a key below the last one, or what stands in brackets: what stands behind.
+    fn step(&mut self, start: &'t str) -> Result<&'t str, ParseError> {
+        match self.open.last().copied() {
+            Some(open) => self.member(open, start),
+            None if first(start) == b'[' => self.header(start),
+            None => self.pair(self.section, start),
         }
     }
 
@@ -128,8 +125,8 @@ impl<'t> Walk<'t, '_> {
         };
         let (key, rest) = key_before(self.alloc, skip_ws(inside), b']')?;
         let spot = Spot::of(self.offset(start));
-        let is_next = is_item && key.path.is_empty();
-        self.section = self.meet_key(Scope::TOP, &key, spot, is_next);
+        let is_next = is_item & key.path.is_empty();
+        self.section = self.meet_key(Some(Scope::TOP), &key, spot, is_next);
         if first(rest) == b']' {
             Ok(skip(rest, 1))
         } else {
@@ -142,9 +139,6 @@ impl<'t> Walk<'t, '_> {
         let (key, value) = key_before(self.alloc, start, b'=')?;
         let value = skip_ws(value);
         let rest = behind_value(self.alloc, value)?;
-        let Some(scope) = scope else {
-            return Ok(rest);
-        };
         let spot = Spot {
             at: self.offset(start),
             from: self.offset(value),
@@ -202,26 +196,30 @@ impl<'t> Walk<'t, '_> {
         Ok(skip(start, 1))
     }
 
-    /// A key of a table: the table that it names, which may be the next one of a list.
-    fn meet_key(&mut self, scope: Scope, key: &Key, spot: Spot, is_next: bool) -> Option<Scope> {
-        let mut scope = scope;
+    /// A key of a table where something is looked for or not: the table that it names, which may be the next one of a list.
+    fn meet_key(
+        &mut self,
+        scope: Option<Scope>,
+        key: &Key,
+        spot: Spot,
+        is_next: bool,
+    ) -> Option<Scope> {
+        let mut scope = scope?;
         for part in &key.path {
-            self.meet(scope.path(part.as_str()), Spot::of(spot.at));
-            scope = self.inside(scope, part.as_str(), None)?;
+            scope = self.meet_part(scope, part.as_str(), Spot::of(spot.at), false)?;
         }
-        self.meet(scope.path(key.last.as_str()), spot);
-        let next = if is_next { Some(spot.at) } else { None };
-        self.inside(scope, key.last.as_str(), next)
+        self.meet_part(scope, key.last.as_str(), spot, is_next)
     }
 
-    /// The table that a key of another one names: of a list the last table, or the next one, which stands here.
-    fn inside(&mut self, scope: Scope, name: &str, next: Option<usize>) -> Option<Scope> {
+    /// A part of a key: the table that it names, of a list the last one, or the next one, which stands here.
+    fn meet_part(&mut self, scope: Scope, name: &str, spot: Spot, is_next: bool) -> Option<Scope> {
+        self.meet(scope.path(name), spot);
         if scope.place.table != TableName::Top {
             return scope.profile_named(name);
         }
-        let place = self.item_of(name, next.is_some())?;
-        if let Some(at) = next {
-            self.meet(KeyPath::of(place, None), Spot::of(at));
+        let place = self.item_of(name, is_next)?;
+        if is_next {
+            self.meet(KeyPath::of(place, None), Spot::of(spot.at));
         }
         Some(Scope::of(place))
     }
@@ -230,9 +228,7 @@ impl<'t> Walk<'t, '_> {
     fn item_of(&mut self, name: &str, is_next: bool) -> Option<Place> {
         let (list, table) = list_at(name)?;
         let count = self.counts.get_mut(list)?;
-        if is_next {
-            *count = count.saturating_add(1);
-        }
+        *count = count.saturating_add(u32::from(is_next));
         Some(Place {
             table,
             index: count.saturating_sub(1),

@@ -3,34 +3,50 @@ ghost use Rattle.std.specs.Prelude.{◌≤◌};
 use crate::runs::Run;
 use std::alloc::Global;
 use us_calendar::{Entry, Kind, entries_of};
-use us_flows::Channel;
+use us_flows::{Channel, Config};
 use us_output::EntryWord;
 use us_slots::{NoMemory, QUARTERS_PER_TICK};
 
 /// An entry of a calendar, its channel, and the minislots of the channel's MAPs.
 #[derive(Clone, Copy)]
-pub(crate) struct ChannelEntry {
-    pub(crate) channel: Channel,
+pub(crate) struct ChannelEntry<'a> {
+    pub(crate) channel: &'a Channel,
     pub(crate) len: u64,
     pub(crate) entry: Entry,
 }
 
 /// The entries of one id: of a flow, and of a station.
 #[derive(Clone, Copy)]
-pub(crate) struct Entries {
-    pub(crate) flow: Option<ChannelEntry>,
-    pub(crate) station: Option<ChannelEntry>,
+pub(crate) struct Entries<'a> {
+    pub(crate) flow: Option<ChannelEntry<'a>>,
+    pub(crate) station: Option<ChannelEntry<'a>>,
 }
 
-impl Entries {
+impl<'a> Entries<'a> {
+    /// Takes those of this id from the calendars of all channels.
+    pub(crate) fn take_all(
+        &mut self,
+        alloc: Global,
+        config: &'a Config,
+        id: u64,
+    ) -> Result<(), NoMemory> {
+        for channel in config.channels() {
+            let entries = entries_of(alloc, config, channel)?;
+            let len = config.map_len(channel) as u64;
+            self.take(channel, len, &entries, id);
+        }
+        Ok(())
+    }
+
     /// Takes the entries of a channel that have this id.
-    fn take(&mut self, channel: &Channel, len: u64, entries: &[Entry], id: u64) {
+    fn take(&mut self, channel: &'a Channel, len: u64, entries: &[Entry], id: u64) {
         for entry in entries {
-            if u64::from(entry.id) == id {
+            if entry.id as u64 == id {
+                let entry = *entry;
                 let found = Some(ChannelEntry {
-                    channel: *channel,
+                    channel,
                     len,
-                    entry: *entry,
+                    entry,
                 });
                 match entry.kind {
                     Kind::Station => self.station = found,
@@ -41,29 +57,13 @@ impl Entries {
     }
 
     /// The entry that a line of this id names by its word.
-    pub(crate) fn named(&self, word: EntryWord) -> Option<ChannelEntry> {
-        if word == EntryWord::Station {
-            return self.station;
-        }
-        match self.flow {
-            Some(of) if word_of(of.entry.kind) == word => self.flow,
+    pub(crate) fn named(&self, word: EntryWord) -> Option<&ChannelEntry<'a>> {
+        match (&self.flow, &self.station) {
+            (Some(of), _) if word_of(of.entry.kind) == word => Some(of),
+            (_, Some(of)) if word == EntryWord::Station => Some(of),
             _ => None,
         }
     }
-}
-
-/// The entries with this id, of all channels.
-pub(crate) fn entries_with(alloc: Global, run: &Run<'_>, id: u64) -> Result<Entries, NoMemory> {
-    let mut found = Entries {
-        flow: None,
-        station: None,
-    };
-    for channel in run.config.channels() {
-        let entries = entries_of(alloc, run.config, channel)?;
-        let len = u64::from(run.config.map_len(channel));
-        found.take(channel, len, &entries, id);
-    }
-    Ok(found)
 }
 
 impl<'a> Run<'a> {
@@ -71,7 +71,7 @@ impl<'a> Run<'a> {
     pub(crate) fn round_quarters(&self) -> u128
         ensures { 1 ≤ result }
     {
-        u128::from(QUARTERS_PER_TICK) * u128::from(self.config.round_ticks())
+        QUARTERS_PER_TICK as u128 * self.config.round_ticks() as u128
     }
 
     /// Whether the flow of an entry is active as an interval begins.
@@ -88,7 +88,7 @@ impl<'a> Run<'a> {
     /// The last place of an interval: a silent flow has one poll.
     pub(crate) fn last_place(&self, entry: &Entry, interval: u64) -> u64 {
         if self.is_active(entry, interval) {
-            u64::from(entry.grants).saturating_sub(1)
+            (entry.grants as u64).saturating_sub(1)
         } else {
             0
         }
@@ -97,15 +97,15 @@ impl<'a> Run<'a> {
 
 /// When an interval begins, in quarter microseconds.
 pub(crate) fn ideal(entry: &Entry, interval: u64) -> u128 {
-    u128::from(entry.start) + u128::from(interval) * u128::from(entry.interval)
+    entry.start as u128 + interval as u128 * entry.interval as u128
 }
 
 /// The first and the last minislot from round 0 on at which a grant of an interval may start.
-pub(crate) fn window(of: &ChannelEntry, interval: u64) -> [u64; 2] {
+pub(crate) fn window(of: &ChannelEntry<'_>, interval: u64) -> [u64; 2] {
     let ticks = of.channel.bursts.time().minislot_ticks();
-    let minislot = u128::from(QUARTERS_PER_TICK) * u128::from(ticks);
+    let minislot = QUARTERS_PER_TICK as u128 * ticks as u128;
     let first = ideal(&of.entry, interval);
-    let last = first.saturating_add(u128::from(of.entry.jitter));
+    let last = first.saturating_add(of.entry.jitter as u128);
     [
         saturated(first.div_ceil(minislot)),
         saturated(last / minislot),

@@ -1,11 +1,12 @@
 use crate::broken::BrokenRule;
 use crate::calendars::saturated;
+use crate::findings::VerdictFile;
 use crate::levels::Level;
 use crate::lines::Lines;
 use crate::runs::Run;
 use crate::said::{Said, place_of};
+use crate::sentences::{Name, Sentence, Text};
 use us_bucket::UNITS_PER_BYTE;
-use us_findings::Sentence;
 use us_flows::Flow;
 use us_output::{EntryWord, Grant, Row};
 use us_requests::Trace;
@@ -37,7 +38,7 @@ impl Credits {
 
     /// That the bytes in the round are too many, and how many there may be at most.
     fn said(&self, place: Sentence, most: Sentence) -> Said {
-        let before = Sentence::of("# bytes are credited by ", self.inside);
+        let before = Sentence::of(Text::Credited, self.inside);
         Said::of_lines(&self.lines, place, before, most)
     }
 }
@@ -61,7 +62,7 @@ pub(crate) fn credits_of(run: &Run<'_>, flow: &Flow, cluster: Option<u64>, round
     };
     for (place, row) in run.rows.iter().enumerate() {
         if let Some(grant) = requested(row) {
-            if grant.id == u64::from(flow.id()) && cluster.unwrap_or(grant.i) == grant.i {
+            if grant.id == flow.id() as u64 && cluster.unwrap_or(grant.i) == grant.i {
                 credits.add(place, grant);
             }
         }
@@ -73,7 +74,7 @@ pub(crate) fn credits_of(run: &Run<'_>, flow: &Flow, cluster: Option<u64>, round
 pub(crate) fn first_word(run: &Run<'_>, id: u64) -> u64 {
     let mut word = 0_u64;
     for flow in run.config.flows() {
-        if u64::from(flow.id()) == id {
+        if flow.id() as u64 == id {
             break;
         }
         word = word.saturating_add(flow.words() as u64);
@@ -85,7 +86,7 @@ pub(crate) fn first_word(run: &Run<'_>, id: u64) -> u64 {
 pub(crate) fn asked_within(trace: &Trace, word: u64, rounds: u64) -> u64 {
     let mut bytes = 0_u64;
     for round in 0..trace.rounds() {
-        if u64::from(round) < rounds {
+        if (round as u64) < rounds {
             bytes = bytes.saturating_add(asked_in(trace, word, round));
         }
     }
@@ -96,8 +97,8 @@ pub(crate) fn asked_within(trace: &Trace, word: u64, rounds: u64) -> u64 {
 fn asked_in(trace: &Trace, word: u64, round: u32) -> u64 {
     let mut bytes = 0_u64;
     for ask in trace.asks(round) {
-        if u64::from(ask.cluster) == word {
-            bytes = bytes.saturating_add(u64::from(ask.bytes));
+        if ask.cluster as u64 == word {
+            bytes = bytes.saturating_add(ask.bytes as u64);
         }
     }
     bytes
@@ -105,13 +106,17 @@ fn asked_in(trace: &Trace, word: u64, round: u32) -> u64 {
 
 /// That a flow is credited more than its rate and its burst allow.
 pub(crate) fn rate_said(run: &Run<'_>, broken: BrokenRule) -> Said {
-    let place = Sentence("round #, flow #", [broken.round, broken.place, 0, 0]);
+    let place = Sentence::new(Text::Flow, [broken.round, broken.place, 0, 0]);
     let Some(flow) = run.flow(broken.place) else {
-        return no_flow(place);
+        return Said::at(
+            VerdictFile::Report,
+            place,
+            Sentence::wanted(Name::Flows, 1, 0),
+        );
     };
     let credits = credits_of(run, flow, None, broken.round);
-    let most = credits.level.units_in(broken.round) / u128::from(UNITS_PER_BYTE);
-    let most = Sentence::of("; the bucket has #", saturated(most));
+    let most = credits.level.units_in(broken.round) / UNITS_PER_BYTE as u128;
+    let most = Sentence::of(Text::Bucket, saturated(most));
     credits.said(place, most)
 }
 
@@ -124,7 +129,12 @@ pub(crate) fn outstanding_said(run: &Run<'_>, broken: BrokenRule) -> Said {
             }
         }
     }
-    no_flow(place_of(broken))
+    // Nobody comes here: some cluster is credited too much, or the verdict is another.
+    Said::at(
+        VerdictFile::Report,
+        place_of(broken),
+        Sentence::wanted(Name::Flows, 1, 0),
+    )
 }
 
 /// The same of one cluster.
@@ -136,16 +146,7 @@ fn cluster_said(run: &Run<'_>, broken: BrokenRule, flow: &Flow, cluster: u64) ->
     if credits.inside <= most {
         return None;
     }
-    let place = Sentence(
-        "round #, flow #, cluster #",
-        [broken.round, broken.place, cluster, 0],
-    );
-    let most = Sentence::of("; outstanding are #", most);
+    let place = Sentence::new(Text::Cluster, [broken.round, broken.place, cluster, 0]);
+    let most = Sentence::of(Text::Left, most);
     Some(credits.said(place, most))
-}
-
-/// What is said where no flow has the id of a verdict. Nobody comes here.
-fn no_flow(place: Sentence) -> Said {
-    let words = "flows with this id: 1 is wanted, 0 is there";
-    Said::at(&Lines::none(), place, Sentence::plain(words))
 }

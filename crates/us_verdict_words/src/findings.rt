@@ -11,6 +11,13 @@ pub enum VerdictFile {
     Line(u64),
 }
 
+impl VerdictFile {
+    /// The report, at the line of the row at this place among all.
+    pub(crate) fn at(place: usize) -> VerdictFile {
+        VerdictFile::Line((place as u64).saturating_add(1))
+    }
+}
+
 /// A broken rule, or a line that is none of a report, in words.
 #[derive(Drop)]
 pub struct VerdictFinding {

@@ -1,91 +1,75 @@
+use crate::findings::VerdictFile;
 use crate::records::{FileRecord, behind_records, byte_of, record_at};
-use crate::runs::{PlacedChannel, Run};
-use crate::said::{Said, exact};
+use crate::runs::Run;
+use crate::said::{Said, first_other};
+use crate::sentences::{NOTHING, Name, Sentence, Text};
 use std::alloc::Global;
 use us_codec::{Element, Map, MapFault, decode};
-use us_findings::Sentence;
 use us_slots::{Iuc, NoMemory};
 
 /// That a record doesn't say of itself what it must, is missing, or is one too many.
 pub(crate) fn heading_said(alloc: Global, run: &Run<'_>, number: u64) -> Result<Said, NoMemory> {
-    let width = run.width().max(1);
-    let round = number / width;
-    let placed = run.channel_at(number % width);
-    if let (Some(record), Some(placed)) = (record_at(run.maps, number), placed) {
-        if round < run.rounds() {
-            let wrong = wrong_number(alloc, &record, &wanted_of(run, round, &placed))?;
-            return Ok(Said::of_record(record.place, wrong));
-        }
-    }
-    Ok(Said::of_record(byte_of(run.maps, number), count_wrong(run, width)))
+    let record = record_at(run.maps, number);
+    let (Some(record), Some(wanted)) = (record, wanted_of(run, number)) else {
+        return Ok(count_said(run, number));
+    };
+    let told = told_by(alloc, &record, &wanted)?;
+    let wrong = first_other(&NAMES, &wanted, &told).unwrap_or(NOTHING);
+    Ok(Said::at(VerdictFile::Maps, record.place, wrong))
 }
 
 /// How many records there are, and how many there must be.
-fn count_wrong(run: &Run<'_>, width: u64) -> Sentence {
+fn count_said(run: &Run<'_>, number: u64) -> Said {
     let (count, _) = behind_records(run.maps, u64::MAX);
-    let rounds = run.rounds();
-    if count.is_multiple_of(width) {
-        let words = "the file has # rounds, --rounds says #";
-        return Sentence(words, [count / width.max(1), rounds, 0, 0]);
-    }
-    let wanted = rounds.saturating_mul(width);
-    Sentence("records: # is wanted, # is there", [wanted, count, 0, 0])
+    let (rounds, width) = (run.rounds(), run.width().max(1));
+    let wrong = if count.is_multiple_of(width) {
+        Sentence::new(Text::Rounds, [count / width, rounds, 0, 0])
+    } else {
+        Sentence::wanted(Name::Records, rounds.saturating_mul(width), count)
+    };
+    Said::at(VerdictFile::Maps, byte_of(run.maps, number), wrong)
 }
 
 /// What a MAP says of itself: its numbers, as these words tell them.
 type Heading = [u64; 10];
 
-static WORDS: [&str; 10] = [
-    "round: # is wanted, # is there",
-    "channel: # is wanted, # is there",
-    "UCD Count: # is wanted, # is there",
-    "Alloc Start Time: # is wanted, # is there",
-    "Ack Time: # is wanted, # is there",
-    "Ranging Backoff Start: # is wanted, # is there",
-    "Ranging Backoff End: # is wanted, # is there",
-    "Data Backoff Start: # is wanted, # is there",
-    "Data Backoff End: # is wanted, # is there",
-    "length in minislots: # is wanted, # is there",
+static NAMES: [Name; 10] = [
+    Name::Round,
+    Name::Channel,
+    Name::UcdCount,
+    Name::AllocStart,
+    Name::AckTime,
+    Name::RangingStart,
+    Name::RangingEnd,
+    Name::DataStart,
+    Name::DataEnd,
+    Name::Length,
 ];
 
-/// Which number of a record isn't the one that is wanted.
-fn wrong_number(
-    alloc: Global,
-    record: &FileRecord<'_>,
-    wanted: &Heading,
-) -> Result<Sentence, NoMemory> {
+/// What a record says of itself.
+fn told_by(alloc: Global, record: &FileRecord<'_>, wanted: &Heading) -> Result<Heading, NoMemory> {
     match decode(alloc, record.body) {
-        Ok(map) => Ok(first_other(wanted, &told_by(u64::from(record.round), &map))),
+        Ok(map) => Ok(heading_of(record.round as u64, &map)),
         Err(MapFault::NoMemory) => Err(NoMemory),
         // Nobody comes here: each body was read for the verdict.
-        Err(_) => Ok(first_other(wanted, wanted)),
+        Err(_) => Ok(*wanted),
     }
-}
-
-/// The first number of a heading that isn't the one that is wanted.
-fn first_other(wanted: &Heading, told: &Heading) -> Sentence {
-    for (place, words) in WORDS.iter().enumerate() {
-        if let Some(wrong) = exact(words, wanted[place], told[place]) {
-            return wrong;
-        }
-    }
-    Sentence(WORDS[0], [wanted[0], told[0], 0, 0])
 }
 
 /// What a MAP of this round says of itself.
-fn told_by(round: u64, map: &Map) -> Heading {
+fn heading_of(round: u64, map: &Map) -> Heading {
     let head = map.head();
     let [a, b, c, d] = head.backoffs;
     [
         round,
-        u64::from(head.channel),
-        u64::from(head.ucd_count),
-        u64::from(head.alloc_start),
-        u64::from(head.ack),
-        u64::from(a),
-        u64::from(b),
-        u64::from(c),
-        u64::from(d),
+        head.channel as u64,
+        head.ucd_count as u64,
+        head.alloc_start as u64,
+        head.ack as u64,
+        a as u64,
+        b as u64,
+        c as u64,
+        d as u64,
         null_offset(map.elements()),
     ]
 }
@@ -94,29 +78,35 @@ fn told_by(round: u64, map: &Map) -> Heading {
 fn null_offset(elements: &[Element]) -> u64 {
     for element in elements {
         if element.iuc() == Iuc::null() {
-            return u64::from(element.offset());
+            return element.offset() as u64;
         }
     }
     0
 }
 
-/// What the MAP of a channel's round must say of itself.
-fn wanted_of(run: &Run<'_>, round: u64, placed: &PlacedChannel) -> Heading {
+/// What the record of this number must say of itself, if the run has it.
+fn wanted_of(run: &Run<'_>, number: u64) -> Option<Heading> {
+    let width = run.width().max(1);
+    let round = number / width;
+    if run.rounds() <= round {
+        return None;
+    }
+    let placed = run.channel_at(number % width)?;
     let channel = placed.channel;
-    let ticks = round.saturating_mul(u64::from(run.config.round_ticks()));
-    let served = ticks.saturating_sub(u64::from(run.config.lead_ticks()));
+    let ticks = round.saturating_mul(run.config.round_ticks() as u64);
+    let served = ticks.saturating_sub(run.config.lead_ticks() as u64);
     let [a, b] = channel.ranging_backoff;
     let [c, d] = channel.data_backoff;
-    [
+    Some([
         round,
-        u64::from(channel.id),
-        u64::from(channel.ucd_count),
+        channel.id as u64,
+        channel.ucd_count as u64,
         round.saturating_mul(placed.len),
-        served / u64::from(channel.bursts.time().minislot_ticks()),
-        u64::from(a),
-        u64::from(b),
-        u64::from(c),
-        u64::from(d),
+        served / channel.bursts.time().minislot_ticks() as u64,
+        a as u64,
+        b as u64,
+        c as u64,
+        d as u64,
         placed.len,
-    ]
+    ])
 }

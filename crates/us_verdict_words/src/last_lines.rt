@@ -1,9 +1,9 @@
 use crate::calendars::saturated;
 use crate::credits::{asked_within, credits_of, first_word};
-use crate::lines::{Which, lines_of};
+use crate::lines::{Lines, Which, lines_of};
 use crate::runs::Run;
-use crate::said::{Said, exact};
-use us_findings::Sentence;
+use crate::said::{Said, exact, first_other};
+use crate::sentences::{Name, Sentence, Text};
 use us_flows::Flow;
 use us_output::{FinalActivity, FinalState, Row, TraceCounts};
 
@@ -11,37 +11,33 @@ use us_output::{FinalActivity, FinalState, Row, TraceCounts};
 pub(crate) fn last_said(run: &Run<'_>, id: u64) -> Said {
     let flow = run.flow(id);
     let lists = clusters_of(flow);
-    for number in 0..lists.saturating_add(2) {
+    for number in 0..lists.saturating_add(3) {
         if let Some(said) = said_at(run, place_at(id, lists, number), flow) {
             return said;
         }
     }
-    let counts = Which::Counts;
-    match said_at(run, counts, flow) {
-        Some(said) => said,
-        // Nobody comes here: a last line is wrong, or the verdict is another.
-        None => Said::count(1, &lines_of(run.rows, counts), words_of(counts)),
-    }
+    // Nobody comes here: a last line is wrong, or the verdict is another.
+    Said::count(1, &Lines::none(), words_of(Which::Counts))
 }
 
-/// The places of an id in their order: F lines of clusters that its flow hasn't, those of each of its clusters, and A lines.
+/// The places of an id in their order: F lines of clusters that its flow hasn't, those of each of its clusters, A lines,
+/// and the U line.
 fn place_at(id: u64, lists: u64, number: u64) -> Which {
     match number.checked_sub(1) {
         None => Which::FinalFrom(id, lists),
         Some(list) if list < lists => Which::Final(id, list),
-        Some(_) => Which::Activity(id),
+        Some(list) if list == lists => Which::Activity(id),
+        Some(_) => Which::Counts,
     }
 }
 
 /// A place of last lines, in words.
 fn words_of(place: Which) -> Sentence {
     match place {
-        Which::Final(id, list) => Sentence("F line of flow #, cluster #", [id, list, 0, 0]),
-        Which::FinalFrom(id, list) => {
-            Sentence("F line of flow #, cluster # or higher", [id, list, 0, 0])
-        }
-        Which::Activity(id) => Sentence::of("A line of flow #", id),
-        _ => Sentence::plain("U line"),
+        Which::Final(id, list) => Sentence::new(Text::FinalLine, [id, list, 0, 0]),
+        Which::FinalFrom(id, list) => { Sentence::new(Text::FinalLinesFrom, [id, list, 0, 0]) }
+        Which::Activity(id) => Sentence::of(Text::ActivityLine, id),
+        _ => Sentence::of(Text::CountsLine, 0),
     }
 }
 
@@ -60,8 +56,10 @@ fn said_at(run: &Run<'_>, place: Which, flow: Option<&Flow>) -> Option<Said> {
     if lines.count as u64 != wanted {
         return Some(Said::count(wanted, &lines, words_of(place)));
     }
-    let wrong = wrong_with(run, flow, lines.first(run.rows))?;
-    Some(Said::at(&lines, words_of(place), wrong))
+    match wrong_with(run, flow, lines.first(run.rows)) {
+        Some(wrong) => Some(Said::at(lines.file(), words_of(place), wrong)),
+        None => None,
+    }
 }
 
 /// How many lines a place has.
@@ -74,11 +72,11 @@ fn wanted_at(place: Which, flow: Option<&Flow>) -> u64 {
 }
 
 /// What is wrong with a last line, the first one of its place.
-fn wrong_with(run: &Run<'_>, flow: Option<&Flow>, line: Option<Row>) -> Option<Sentence> {
-    match (line?, flow) {
-        (Row::Final(state), Some(flow)) => wrong_final(run, flow, &state),
-        (Row::Activity(told), _) => wrong_activity(run, &told),
-        (Row::Counts(told), _) => wrong_counts(run, &told),
+fn wrong_with(run: &Run<'_>, flow: Option<&Flow>, line: Option<&Row>) -> Option<Sentence> {
+    match (line, flow) {
+        (Some(Row::Final(state)), Some(flow)) => wrong_final(run, flow, state),
+        (Some(Row::Activity(told)), _) => wrong_activity(run, told),
+        (Some(Row::Counts(told)), _) => wrong_counts(run, told),
         _ => None,
     }
 }
@@ -91,44 +89,42 @@ fn wrong_final(run: &Run<'_>, flow: &Flow, state: &FinalState) -> Option<Sentenc
     let left = asked.saturating_sub(credits_of(run, flow, Some(state.cluster), rounds).before);
     let level = credits_of(run, flow, None, rounds).level;
     let units = saturated(level.units_in(rounds.saturating_sub(1)));
-    let words = "outstanding: # is wanted, # is there";
-    exact(words, left, state.outstanding).or(wrong_units(flow.rate(), units, state.units))
+    exact(Name::Outstanding, left, state.outstanding).or(wrong_units(
+        flow.rate(),
+        units,
+        state.units,
+    ))
 }
 
 /// What is wrong with the units of an F line of a flow with this rate; none are told where it is 0.
 fn wrong_units(rate: u32, units: u64, told: Option<u64>) -> Option<Sentence> {
-    let (words, wanted, there) = match (rate, told) {
-        (0, None) => return None,
-        (0, Some(_)) => (
-            "numbers in the place of -, as the rate is 0: # is wanted, # is there",
-            0,
-            1,
-        ),
-        (_, None) => (
-            "numbers in the place of -, as the flow has a rate: # is wanted, # is there",
-            1,
-            0,
-        ),
-        (_, Some(there)) => ("units: # is wanted, # is there", units, there),
-    };
-    exact(words, wanted, there)
+    match (rate, told) {
+        (0, None) => None,
+        (0, Some(_)) => exact(Name::NumbersWithoutRate, 0, 1),
+        (_, None) => exact(Name::NumbersWithRate, 1, 0),
+        (_, Some(there)) => exact(Name::Units, units, there),
+    }
 }
 
 /// What is wrong with an A line.
 fn wrong_activity(run: &Run<'_>, told: &FinalActivity) -> Option<Sentence> {
     let word = u16::try_from(first_word(run, told.flow)).unwrap_or(u16::MAX);
-    let end = u128::from(run.rounds()).saturating_sub(1);
-    let active = u64::from(run.activities.is_active(word, end));
-    exact("active: # is wanted, # is there", active, told.active)
+    let end = (run.rounds() as u128).saturating_sub(1);
+    let active = run.activities.is_active(word, end) as u64;
+    exact(Name::Active, active, told.active)
 }
 
 /// What is wrong with a U line.
 fn wrong_counts(run: &Run<'_>, told: &TraceCounts) -> Option<Sentence> {
     let counts = run.trace.counts();
-    let (unknown, late) = (u64::from(counts.unknown), u64::from(counts.late));
-    let unasked = u64::from(counts.not_requestable);
-    let words = "not_requestable: # is wanted, # is there";
-    exact("unknown: # is wanted, # is there", unknown, told.unknown)
-        .or(exact(words, unasked, told.not_requestable))
-        .or(exact("late: # is wanted, # is there", late, told.late))
+    let wanted = [
+        counts.unknown as u64,
+        counts.not_requestable as u64,
+        counts.late as u64,
+    ];
+    first_other(
+        &[Name::Unknown, Name::NotRequestable, Name::Late],
+        &wanted,
+        &[told.unknown, told.not_requestable, told.late],
+    )
 }

@@ -15,9 +15,9 @@ pub(crate) struct Level {
 impl Level {
     /// That of a flow, full in round 0.
     pub(crate) fn of_flow(config: &Config, flow: &Flow) -> Level {
-        let full = u128::from(flow.burst()) * u128::from(UNITS_PER_BYTE);
+        let full = flow.burst() as u128 * UNITS_PER_BYTE as u128;
         Level {
-            growth: u128::from(config.round_ticks()) * u128::from(flow.rate()),
+            growth: config.round_ticks() as u128 * flow.rate() as u128,
             full,
             units: full,
             round: 0,
@@ -29,14 +29,14 @@ impl Level {
         if round < self.round {
             return self.full;
         }
-        let rounds = u128::from(round.saturating_sub(self.round));
+        let rounds = (round - self.round) as u128;
         let grown = rounds.saturating_mul(self.growth);
         self.units.saturating_add(grown).min(self.full)
     }
 
     /// So many bytes are credited in a round.
     pub(crate) fn spend(&mut self, round: u64, bytes: u64) {
-        let spent = u128::from(bytes).saturating_mul(u128::from(UNITS_PER_BYTE));
+        let spent = (bytes as u128).saturating_mul(UNITS_PER_BYTE as u128);
         self.units = self.units_in(round).saturating_sub(spent);
         self.round = round;
     }

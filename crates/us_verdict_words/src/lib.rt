@@ -18,6 +18,9 @@ mod findings;
 // Lines of a report.
 mod lines;
 
+// Words with numbers among them.
+mod sentences;
+
 // What is found: the place, and what is wanted there.
 mod said;
 

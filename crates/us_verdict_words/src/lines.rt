@@ -1,13 +1,22 @@
 use crate::findings::VerdictFile;
-use crate::said::NOTHING;
+use crate::sentences::{NOTHING, Sentence, Text};
 use std::alloc::Global;
-use us_findings::Sentence;
 use us_output::{MissedOccurrence, Row};
 use us_reports::{ReportFault, report_rows};
 use us_slots::NoMemory;
 
 /// How many lines are named by their numbers.
 const MAX_NAMED: usize = 5;
+
+/// So many lines, of which the first is where the finding is.
+static LINES: [Text; MAX_NAMED + 1] = [
+    Text::NoLine,
+    Text::OneLine,
+    Text::TwoLines,
+    Text::ThreeLines,
+    Text::FourLines,
+    Text::FiveLines,
+];
 
 /// Lines of a report that have to do with one another, by their numbers from 1.
 #[derive(Clone, Copy)]
@@ -34,27 +43,19 @@ impl Lines {
     }
 
     /// The row of the first one.
-    pub(crate) fn first(&self, rows: &[Row]) -> Option<Row> {
+    pub(crate) fn first<'r>(&self, rows: &'r [Row]) -> Option<&'r Row> {
         let place = self.numbers[0].checked_sub(1)?;
-        rows.get(place as usize).copied()
+        rows.get(place as usize)
     }
 
     /// What a finding at the first one calls them: `this line and line 12`, and how many more there are than are named.
     pub(crate) fn words(&self) -> [Sentence; 2] {
         let [_, a, b, c, d] = self.numbers;
-        let words = match self.count {
-            0 => "no line",
-            1 => "this line",
-            2 => "this line and line #",
-            3 => "this line and line # and line #",
-            4 => "this line and line # and line # and line #",
-            _ => "this line and line # and line # and line # and line #",
-        };
-        let more = match self.count.saturating_sub(MAX_NAMED) {
-            0 => NOTHING,
-            more => Sentence::of(" and # more", more as u64),
-        };
-        [Sentence(words, [a, b, c, d]), more]
+        let named = Sentence::new(LINES[self.count.min(MAX_NAMED)], [a, b, c, d]);
+        match self.count.saturating_sub(MAX_NAMED) {
+            0 => [named, NOTHING],
+            more => [named, Sentence::of(Text::MoreLines, more as u64)],
+        }
     }
 
     /// Where a finding of them is: at the first one, if there is one.
@@ -96,11 +97,10 @@ impl Which {
             }
             (Which::Activity(id), Row::Activity(told)) => told.flow == id,
             (Which::Counts, Row::Counts(_)) => true,
-            (Which::Map(..) | Which::Occurrence(_), _) => match named(row) {
+            _ => match named(row) {
                 Some(line) => self.has_occurrence(&line),
                 None => false,
             },
-            _ => false,
         }
     }
 

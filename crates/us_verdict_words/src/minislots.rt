@@ -3,10 +3,10 @@ use crate::findings::VerdictFile;
 use crate::lines::{Lines, Which, lines_of};
 use crate::records::{byte_of, record_at};
 use crate::runs::{PlacedChannel, Run};
-use crate::said::{NOTHING, Said, between};
+use crate::said::{Said, between};
+use crate::sentences::{NOTHING, Name, Sentence, Text};
 use std::alloc::Global;
 use us_codec::{Element, MapFault, decode};
-use us_findings::Sentence;
 use us_output::{Grant, Row};
 use us_slots::NoMemory;
 
@@ -25,87 +25,100 @@ pub(crate) fn minislot_said(
     run: &Run<'_>,
     broken: BrokenRule,
 ) -> Result<Said, NoMemory> {
-    let Some(placed) = run.channel(broken.channel) else {
-        let words = "channels with this id: # is wanted, # is there";
-        return Ok(lacked(run, broken, Sentence(words, [1, 0, 0, 0])));
-    };
     let rounds = run.rounds();
-    if broken.round < rounds {
-        return minislot_of(alloc, run, broken, &placed);
-    }
-    let words = [
-        "round, below --rounds: # is wanted, # is there",
-        "round, below --rounds: # to # is wanted, # is there",
-    ];
-    let wrong = between(words, [0, rounds.saturating_sub(1)], broken.round);
-    Ok(lacked(run, broken, wrong))
-}
-
-/// That the run lacks a round, or a channel.
-fn lacked(run: &Run<'_>, broken: BrokenRule, wrong: Sentence) -> Said {
-    let lines = lines_of(run.rows, Which::Map(broken.round, broken.channel));
-    Said::at(&lines, map_of(broken), wrong)
-}
-
-/// That a minislot of a MAP isn't what it must be.
-fn minislot_of(
-    alloc: Global,
-    run: &Run<'_>,
-    broken: BrokenRule,
-    placed: &PlacedChannel,
-) -> Result<Said, NoMemory> {
-    let (at, len) = (broken.place, placed.len);
-    let number = broken.round.saturating_mul(run.width());
-    let (place, element) = element_at(alloc, run.maps, number.saturating_add(placed.place), at)?;
-    let which = Sentence("minislot # of #: granted by ", [at, len, 0, 0]);
-    let lines = granting_lines(run, broken, len);
-    let [named, more] = lines.words();
-    let reserve = reserve_at(placed, broken);
-    if let Some(Row::Granted(grant)) = lines.first(run.rows) {
-        let other = reserve.unwrap_or(NOTHING);
-        return Ok(Said {
-            file: lines.file(),
-            place: map_of(broken),
-            wrong: [which, named, more, line_span(&grant), other, element],
-        });
-    }
-    let wanted = match reserve {
-        Some(reserve) => reserve,
-        None => gap_at(run, broken, placed),
+    let lacked = match run.channel(broken.channel) {
+        Some(placed) if broken.round < rounds => return minislot_of(alloc, run, broken, &placed),
+        Some(_) => between(
+            Name::RoundOfRun,
+            [0, rounds.saturating_sub(1)],
+            broken.round,
+        ),
+        None => Sentence::wanted(Name::Channels, 1, 0),
     };
-    Ok(Said {
-        file: VerdictFile::Maps,
-        place,
-        wrong: [which, named, wanted, element, NOTHING, NOTHING],
-    })
+    let lines = lines_of(run.rows, Which::Map(broken.round, broken.channel));
+    Ok(Said::at(lines.file(), map_of(broken), lacked))
 }
 
 /// The MAP of a verdict.
 fn map_of(broken: BrokenRule) -> Sentence {
-    Sentence("round #, channel #", [broken.round, broken.channel, 0, 0])
+    Sentence::new(Text::Map, [broken.round, broken.channel, 0, 0])
 }
 
-/// The grant that a row of this MAP tells.
-fn grant_in<'r>(row: &'r Row, broken: &BrokenRule) -> Option<&'r Grant> {
-    match row {
-        Row::Granted(grant) if grant.round == broken.round && grant.channel == broken.channel => {
-            Some(grant)
+/// That a minislot of a MAP isn't what it must be: what lines grant, what is wanted, and what the MAP has.
+fn minislot_of(
+    alloc: Global,
+    run: &Run<'_>,
+    broken: BrokenRule,
+    placed: &PlacedChannel<'_>,
+) -> Result<Said, NoMemory> {
+    let before = broken.round.saturating_mul(run.width());
+    let number = before.saturating_add(placed.place);
+    let (record, element) = element_at(alloc, run.maps, number, broken.place)?;
+    let reserves = reserves_in(placed, broken.round);
+    let granted = granted_in(run.rows, broken, placed.len, reserves);
+    let (file, place) = match granted.lines.count {
+        0 => (VerdictFile::Maps, record),
+        _ => (granted.lines.file(), map_of(broken)),
+    };
+    let wanted = wanted_at(placed, broken.place, reserves, &granted);
+    let which = Sentence::new(Text::Minislot, [broken.place, placed.len, 0, 0]);
+    let [named, more] = granted.lines.words();
+    Ok(Said {
+        file,
+        place,
+        fault: None,
+        wrong: [which, named, more, granted.span, wanted, element],
+    })
+}
+
+/// What lines grant of a MAP.
+#[derive(Clone, Copy)]
+struct Granted {
+    /// The lines that grant a minislot,
+    lines: Lines,
+    /// and the minislots of the first of them.
+    span: Sentence,
+    /// The last end of grants before it, and the first start behind it, both between the reserves.
+    from: u64,
+    to: u64,
+}
+
+impl Granted {
+    /// One grant more, told at this place among all rows.
+    fn add(&mut self, place: usize, grant: &Grant, at: u64, len: u64) {
+        if is_about(grant, at, len) {
+            if self.lines.count == 0 {
+                self.span = Sentence::new(
+                    Text::LineSpan,
+                    [grant.start, grant.slots, grant.sid, grant.iuc],
+                );
+            }
+            self.lines.add(place);
         }
-        _ => None,
+        if grant.slots > 0 && grant.start <= at {
+            self.from = self.from.max(grant.start.saturating_add(grant.slots));
+        } else if grant.slots > 0 {
+            self.to = self.to.min(grant.start);
+        }
     }
 }
 
-/// The lines that grant a minislot.
-fn granting_lines(run: &Run<'_>, broken: BrokenRule, len: u64) -> Lines {
-    let mut lines = Lines::none();
-    for (place, row) in run.rows.iter().enumerate() {
-        if let Some(grant) = grant_in(row, &broken) {
-            if is_about(grant, broken.place, len) {
-                lines.add(place);
+/// What lines grant of the MAP of a verdict, about its minislot.
+fn granted_in(rows: &[Row], broken: BrokenRule, len: u64, [first, last]: [u64; 2]) -> Granted {
+    let mut granted = Granted {
+        lines: Lines::none(),
+        span: NOTHING,
+        from: first,
+        to: last,
+    };
+    for (place, row) in rows.iter().enumerate() {
+        if let Row::Granted(grant) = row {
+            if grant.round == broken.round && grant.channel == broken.channel {
+                granted.add(place, grant, broken.place, len);
             }
         }
     }
-    lines
+    granted
 }
 
 /// Whether a grant is about a minislot: it has that, starts there and is empty, or starts behind the MAP's end.
@@ -119,74 +132,52 @@ fn is_about(grant: &Grant, at: u64, len: u64) -> bool {
     grant.start <= at && at - grant.start < grant.slots
 }
 
-/// The minislots that a line grants.
-fn line_span(grant: &Grant) -> Sentence {
-    Sentence(
-        "; this line has start #, slots #, SID #, IUC #",
-        [grant.start, grant.slots, grant.sid, grant.iuc],
-    )
-}
-
 /// Where both reserves of a MAP stand: behind which minislot the first one ends, and at which the last one begins.
-fn reserves_in(placed: &PlacedChannel, round: u64) -> (u64, u64) {
+fn reserves_in(placed: &PlacedChannel<'_>, round: u64) -> [u64; 2] {
     let channel = placed.channel;
-    let first = if round.is_multiple_of(u64::from(channel.maintenance_every)) {
-        u64::from(channel.maintenance_minislots)
+    let first = if round.is_multiple_of(channel.maintenance_every as u64) {
+        channel.maintenance_minislots as u64
     } else {
         0
     };
-    let last = placed
-        .len
-        .saturating_sub(u64::from(channel.contention_minislots));
-    (first, last)
+    let contention = channel.contention_minislots as u64;
+    [first, placed.len.saturating_sub(contention)]
 }
 
-/// The reserve that has a minislot.
-fn reserve_at(placed: &PlacedChannel, broken: BrokenRule) -> Option<Sentence> {
-    let (first, last) = reserves_in(placed, broken.round);
-    if broken.place < first {
-        return Some(Sentence(
-            "; the maintenance reserve has start #, slots #, SID #, IUC #",
+/// What is wanted at a minislot: the reserve that has it, or where no line grants it a gap, for all modems, or for nobody
+/// where it is too short for a request.
+fn wanted_at(
+    placed: &PlacedChannel<'_>,
+    at: u64,
+    [first, last]: [u64; 2],
+    granted: &Granted,
+) -> Sentence {
+    if at < first {
+        return Sentence::new(
+            Text::MaintenanceSpan,
             [0, first, BROADCAST, INITIAL_MAINTENANCE],
-        ));
+        );
     }
-    if broken.place < last || placed.len <= broken.place {
-        return None;
+    if last <= at && at < placed.len {
+        return Sentence::new(
+            Text::ContentionSpan,
+            [last, placed.len - last, BROADCAST, REQUEST],
+        );
     }
-    Some(Sentence(
-        "; the contention reserve has start #, slots #, SID #, IUC #",
-        [last, placed.len.saturating_sub(last), BROADCAST, REQUEST],
-    ))
-}
-
-/// The gap that has a minislot: for all modems, or for nobody where it is too short for a request.
-fn gap_at(run: &Run<'_>, broken: BrokenRule, placed: &PlacedChannel) -> Sentence {
-    let (from, to) = gap_between(run, broken, reserves_in(placed, broken.round));
-    let slots = to.saturating_sub(from);
-    let sid = if u64::from(placed.channel.request_minislots) <= slots {
-        BROADCAST
-    } else {
-        0
-    };
-    Sentence(
-        "; wanted is a gap, start #, slots #, SID #, IUC #",
-        [from, slots, sid, REQUEST],
+    if granted.lines.count > 0 {
+        return NOTHING;
+    }
+    let slots = granted.to.saturating_sub(granted.from);
+    let is_long = placed.channel.request_minislots as u64 <= slots;
+    Sentence::new(
+        Text::Gap,
+        [
+            granted.from,
+            slots,
+            if is_long { BROADCAST } else { 0 },
+            REQUEST,
+        ],
     )
-}
-
-/// The last end of grants before a minislot, and the first start behind it, both between the reserves.
-fn gap_between(run: &Run<'_>, broken: BrokenRule, reserves: (u64, u64)) -> (u64, u64) {
-    let (mut from, mut to) = reserves;
-    for row in run.rows {
-        if let Some(grant) = grant_in(row, &broken) {
-            if grant.slots > 0 && grant.start <= broken.place {
-                from = from.max(grant.start.saturating_add(grant.slots));
-            } else if grant.slots > 0 {
-                to = to.min(grant.start);
-            }
-        }
-    }
-    (from, to)
 }
 
 /// Where the record of this number stands, and the element of its MAP that has a minislot.
@@ -211,18 +202,18 @@ fn element_at(
 fn element_span(elements: &[Element], at: u64) -> Sentence {
     let mut span = NOTHING;
     for element in elements {
-        let start = u64::from(element.offset());
+        let start = element.offset() as u64;
         if at < start {
             span.1[1] = start.saturating_sub(span.1[0]);
             return span;
         }
-        span = Sentence(
-            "; the MAP has start #, slots #, SID #, IUC #",
+        span = Sentence::new(
+            Text::MapSpan,
             [
                 start,
                 0,
-                u64::from(element.sid()),
-                u64::from(element.iuc().number()),
+                element.sid() as u64,
+                element.iuc().number() as u64,
             ],
         );
     }

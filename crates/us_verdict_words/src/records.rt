@@ -1,7 +1,8 @@
-use crate::said::NOTHING;
+use crate::findings::VerdictFile;
+use crate::said::Said;
+use crate::sentences::{NOTHING, Sentence, Text};
 use std::alloc::Global;
 use us_codec::{MapFault, decode};
-use us_findings::Sentence;
 use us_slots::NoMemory;
 
 /// A record of a maps file: where it begins, and what it has.
@@ -18,7 +19,7 @@ fn first_piece(bytes: &[u8]) -> Option<(u32, &[u8], &[u8])> {
         return None;
     };
     let round = u32::from_be_bytes([*a, *b, *c, *d]);
-    let (body, behind) = rest.split_at_checked(usize::from(u16::from_be_bytes([*high, *low])))?;
+    let (body, behind) = rest.split_at_checked(u16::from_be_bytes([*high, *low]) as usize)?;
     Some((round, body, behind))
 }
 
@@ -36,17 +37,14 @@ pub(crate) fn behind_records(file: &[u8], number: u64) -> (u64, &[u8]) {
 
 /// The record of this number, from 0; `None` where the file ends before it, or inside it.
 pub(crate) fn record_at(file: &[u8], number: u64) -> Option<FileRecord<'_>> {
-    let (before, rest) = behind_records(file, number);
-    if before < number {
-        return None;
-    }
+    let (_, rest) = behind_records(file, number);
     let (round, body, _) = first_piece(rest)?;
     let at = file.len().saturating_sub(rest.len());
     let channel = body.first().copied().unwrap_or(0);
     Some(FileRecord {
-        place: Sentence(
-            "record #, at byte # (round #, channel #)",
-            [number, at as u64, u64::from(round), u64::from(channel)],
+        place: Sentence::new(
+            Text::RecordOfMap,
+            [number, at as u64, round as u64, channel as u64],
         ),
         round,
         body,
@@ -57,20 +55,22 @@ pub(crate) fn record_at(file: &[u8], number: u64) -> Option<FileRecord<'_>> {
 pub(crate) fn byte_of(file: &[u8], number: u64) -> Sentence {
     let (_, rest) = behind_records(file, number);
     let at = file.len().saturating_sub(rest.len());
-    Sentence("record #, at byte #", [number, at as u64, 0, 0])
+    Sentence::new(Text::Record, [number, at as u64, 0, 0])
 }
 
-/// Where a record is none, and why: the file ends inside it, or its body isn't in the grammar.
-pub(crate) fn record_text(alloc: Global, file: &[u8], number: u64) -> Result<String, NoMemory> {
+/// Why a record is none: the file ends inside it, or its body isn't in the grammar.
+pub(crate) fn record_said(alloc: Global, file: &[u8], number: u64) -> Result<Said, NoMemory> {
     let (place, fault, more) = match record_at(file, number) {
         Some(record) => (record.place, fault_of(alloc, record.body)?, NOTHING),
         None => (
             byte_of(file, number),
             MapFault::RecordCut,
-            Sentence::of(", at byte #", file.len() as u64),
+            Sentence::of(Text::FileEnd, file.len() as u64),
         ),
     };
-    Ok(format!(in alloc; "{place}: {fault}{more}")?)
+    let mut said = Said::at(VerdictFile::Maps, place, more);
+    said.fault = Some(fault);
+    Ok(said)
 }
 
 /// The fault of a body that has one.

@@ -16,8 +16,8 @@ pub(crate) struct Run<'a> {
 
 /// A channel, its place in the table, and the minislots of its MAPs.
 #[derive(Clone, Copy)]
-pub(crate) struct PlacedChannel {
-    pub(crate) channel: Channel,
+pub(crate) struct PlacedChannel<'a> {
+    pub(crate) channel: &'a Channel,
     pub(crate) place: u64,
     pub(crate) len: u64,
 }
@@ -25,7 +25,7 @@ pub(crate) struct PlacedChannel {
 impl<'a> Run<'a> {
     /// The number of rounds.
     pub(crate) fn rounds(&self) -> u64 {
-        u64::from(self.trace.rounds())
+        self.trace.rounds() as u64
     }
 
     /// The number of channels.
@@ -34,13 +34,13 @@ impl<'a> Run<'a> {
     }
 
     /// The channel with this id.
-    pub(crate) fn channel(&self, id: u64) -> Option<PlacedChannel> {
+    pub(crate) fn channel(&self, id: u64) -> Option<PlacedChannel<'a>> {
         for (place, channel) in self.config.channels().iter().enumerate() {
-            if u64::from(channel.id) == id {
+            if channel.id as u64 == id {
                 return Some(PlacedChannel {
-                    channel: *channel,
+                    channel,
                     place: place as u64,
-                    len: u64::from(self.config.map_len(channel)),
+                    len: self.config.map_len(channel) as u64,
                 });
             }
         }
@@ -48,15 +48,15 @@ impl<'a> Run<'a> {
     }
 
     /// The channel at this place of the table.
-    pub(crate) fn channel_at(&self, place: u64) -> Option<PlacedChannel> {
+    pub(crate) fn channel_at(&self, place: u64) -> Option<PlacedChannel<'a>> {
         let channel = self.config.channels().get(place as usize)?;
-        self.channel(u64::from(channel.id))
+        self.channel(channel.id as u64)
     }
 
     /// The flow with this id.
     pub(crate) fn flow(&self, id: u64) -> Option<&'a Flow> {
         for flow in self.config.flows() {
-            if u64::from(flow.id()) == id {
+            if flow.id() as u64 == id {
                 return Some(flow);
             }
         }

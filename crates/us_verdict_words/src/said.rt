@@ -1,34 +1,44 @@
 use crate::broken::BrokenRule;
 use crate::findings::VerdictFile;
 use crate::lines::Lines;
-use us_findings::Sentence;
+use crate::sentences::{NOTHING, Name, Sentence, Text, Words};
+use std::fmt;
+use us_codec::MapFault;
 
-/// What is said of a broken rule: the file, the place, and what is wrong there, in sentences that follow one another.
+/// What is said of a broken rule: the file, the place, and what is wrong there: the fault of a record, or sentences that
+/// follow one another.
 #[derive(Clone, Copy)]
 pub(crate) struct Said {
     pub(crate) file: VerdictFile,
     pub(crate) place: Sentence,
+    pub(crate) fault: Option<MapFault>,
     pub(crate) wrong: [Sentence; 6],
 }
 
-/// Nothing is said.
-pub(crate) const NOTHING: Sentence = Sentence("", [0; 4]);
+/// Writes the place, and what is wrong there.
+impl fmt::Display for Said {
+    fn fmt<W: fmt::Write>(&self, f: &mut fmt::Formatter<W>) -> fmt::Result {
+        write!(f, "{}: ", self.place)?;
+        if let Some(fault) = self.fault {
+            write!(f, "{fault}")?;
+        }
+        for sentence in &self.wrong {
+            write!(f, "{sentence}")?;
+        }
+        Ok(())
+    }
+}
 
 impl Said {
-    /// What is said of a record.
-    pub(crate) fn of_record(place: Sentence, wrong: Sentence) -> Said {
+    /// What is wrong at a place, in one sentence.
+    pub(crate) fn at(file: VerdictFile, place: Sentence, wrong: Sentence) -> Said {
+        let mut all = [NOTHING; 6];
+        all[0] = wrong;
         Said {
-            file: VerdictFile::Maps,
+            file,
             place,
-            wrong: [wrong, NOTHING, NOTHING, NOTHING, NOTHING, NOTHING],
-        }
-    }
-
-    /// What is said at the first of these lines.
-    pub(crate) fn at(lines: &Lines, place: Sentence, wrong: Sentence) -> Said {
-        Said {
-            file: lines.file(),
-            ..Said::of_record(place, wrong)
+            fault: None,
+            wrong: all,
         }
     }
 
@@ -40,53 +50,57 @@ impl Said {
         behind: Sentence,
     ) -> Said {
         let [named, more] = lines.words();
-        Said {
-            file: lines.file(),
-            place,
-            wrong: [before, named, more, behind, NOTHING, NOTHING],
-        }
+        let mut said = Said::at(lines.file(), place, before);
+        said.wrong[1] = named;
+        said.wrong[2] = more;
+        said.wrong[3] = behind;
+        said
     }
 
     /// There are these lines, in place of so many.
     pub(crate) fn count(wanted: u64, lines: &Lines, place: Sentence) -> Said {
-        let before = Sentence::of("lines wanted: #; there is ", wanted);
-        Said::of_lines(lines, place, before, NOTHING)
+        Said::of_lines(lines, place, Sentence::of(Text::Lines, wanted), NOTHING)
     }
 }
 
 /// The round, the channel and the id of a verdict.
 pub(crate) fn place_of(broken: BrokenRule) -> Sentence {
-    Sentence(
-        "round #, channel #, id #",
-        [broken.round, broken.channel, broken.place, 0],
-    )
+    Sentence::new(Text::Place, [broken.round, broken.channel, broken.place, 0])
 }
 
-/// That a number isn't the one that is wanted, in words with both.
-pub(crate) fn exact(words: &'static str, wanted: u64, there: u64) -> Option<Sentence> {
+/// That a number isn't the one that is wanted.
+pub(crate) fn exact(name: Name, wanted: u64, there: u64) -> Option<Sentence> {
     if wanted == there {
         return None;
     }
-    Some(Sentence(words, [wanted, there, 0, 0]))
+    Some(Sentence::wanted(name, wanted, there))
 }
 
-/// That a number isn't in the range that is wanted, in words with both ends and the number.
-pub(crate) fn within(words: [&'static str; 2], ends: [u64; 2], there: u64) -> Option<Sentence> {
+/// The first of some numbers that isn't the one that is wanted.
+pub(crate) fn first_other(names: &[Name], wanted: &[u64], there: &[u64]) -> Option<Sentence> {
+    for (place, name) in names.iter().enumerate() {
+        if let (Some(wanted), Some(there)) = (wanted.get(place), there.get(place)) {
+            if *wanted != *there {
+                return Some(Sentence::wanted(*name, *wanted, *there));
+            }
+        }
+    }
+    None
+}
+
+/// That a number isn't in the range that is wanted.
+pub(crate) fn within(name: Name, ends: [u64; 2], there: u64) -> Option<Sentence> {
     if ends[0] <= there && there <= ends[1] {
         return None;
     }
-    Some(between(words, ends, there))
+    Some(between(name, ends, there))
 }
 
-/// The same, whatever the number is. The first words are for a range of one number.
-pub(crate) fn between(
-    [one, several]: [&'static str; 2],
-    [least, most]: [u64; 2],
-    there: u64,
-) -> Sentence {
+/// The same, whatever the number is.
+pub(crate) fn between(name: Name, [least, most]: [u64; 2], there: u64) -> Sentence {
     if least == most {
-        Sentence(one, [least, there, 0, 0])
+        Sentence::wanted(name, least, there)
     } else {
-        Sentence(several, [least, most, there, 0])
+        Sentence(Words::Range(name), [least, most, there, 0])
     }
 }

@@ -10,10 +10,10 @@ use crate::last_lines::last_said;
 use crate::lines::{line_at, rows_of};
 use crate::minislots::minislot_said;
 use crate::occurrences::occurrence_said;
-use crate::records::record_text;
+use crate::records::record_said;
 use crate::runs::Run;
 use crate::said::Said;
-use std::alloc::{AllocError, Global};
+use std::alloc::Global;
 use us_activity::Activities;
 use us_findings::Shown;
 use us_flows::Config;
@@ -31,6 +31,24 @@ pub fn verdict_finding(
 ) -> Result<VerdictFinding, NoMemory>
     ensures { IfOk result (λ finding. finding.code.now ≡ code_of broken.rule) }
 {
+    let said = said_of(alloc, config, trace, maps, report, broken)?;
+    let text = format!(in alloc; "{said}")?;
+    Ok(VerdictFinding {
+        file: said.file,
+        code: broken.rule.code(),
+        text,
+    })
+}
+
+/// The same, before it is written.
+fn said_of(
+    alloc: Global,
+    config: &Config,
+    trace: &Trace,
+    maps: &[u8],
+    report: &[u8],
+    broken: BrokenRule,
+) -> Result<Said, NoMemory> {
     let rows = rows_of(alloc, report)?;
     let activities = Activities::of(alloc, config, trace)?;
     let run = Run {
@@ -40,53 +58,20 @@ pub fn verdict_finding(
         maps,
         rows: &rows,
     };
-    finding_of(alloc, &run, broken)
+    said_in(alloc, &run, broken)
 }
 
-/// The same, of a run.
-fn finding_of(alloc: Global, run: &Run<'_>, broken: BrokenRule) -> Result<VerdictFinding, NoMemory>
-    ensures { IfOk result (λ finding. finding.code.now ≡ code_of broken.rule) }
-{
-    let (file, text) = match broken.rule {
-        Rule::Records => (
-            VerdictFile::Maps,
-            record_text(alloc, run.maps, broken.place)?,
-        ),
-        _ => text_of(alloc, &said_of(alloc, run, broken)?)?,
-    };
-    Ok(VerdictFinding {
-        file,
-        code: broken.rule.code(),
-        text,
-    })
-}
-
-/// The file that something is said of, and the text.
-fn text_of(alloc: Global, said: &Said) -> Result<(VerdictFile, String), AllocError> {
-    let (place, [a, b, c, d, e, f]) = (said.place, said.wrong);
-    let text = format!(in alloc; "{place}: {a}{b}{c}{d}{e}{f}")?;
-    Ok((said.file, text))
-}
-
-/// What is said of a rule but that of records.
-fn said_of(alloc: Global, run: &Run<'_>, broken: BrokenRule) -> Result<Said, NoMemory> {
+/// The same, of a run. Credits are lines of requests, or their sums, or last lines.
+fn said_in(alloc: Global, run: &Run<'_>, broken: BrokenRule) -> Result<Said, NoMemory> {
     match broken.rule {
+        Rule::Records => record_said(alloc, run.maps, broken.place),
         Rule::Headings => heading_said(alloc, run, broken.place),
         Rule::Minislots => minislot_said(alloc, run, broken),
         Rule::Occurrences => occurrence_said(alloc, run, broken),
         Rule::Rates => Ok(rate_said(run, broken)),
-        Rule::Credits | Rule::Records => Ok(credits_said(run, broken)),
-    }
-}
-
-/// What is said of credits: of lines of requests, of their sums, or of last lines.
-fn credits_said(run: &Run<'_>, broken: BrokenRule) -> Said {
-    if broken.channel != 0 {
-        credit_line_said(run, broken)
-    } else if broken.round < run.rounds() {
-        outstanding_said(run, broken)
-    } else {
-        last_said(run, broken.place)
+        Rule::Credits if broken.channel != 0 => Ok(credit_line_said(run, broken)),
+        Rule::Credits if broken.round < run.rounds() => Ok(outstanding_said(run, broken)),
+        Rule::Credits => Ok(last_said(run, broken.place)),
     }
 }
 
@@ -95,14 +80,12 @@ pub fn report_finding(alloc: Global, report: &[u8], line: u64) -> Result<Verdict
     ensures { IfOk result (λ finding. finding.code.now ≡ codes "CK1") }
 {
     let bytes = line_at(report, line);
-    let wanted = form_of(bytes);
+    let (wanted, there) = (form_of(bytes), Shown(bytes));
+    let text = format!(in alloc; "{wanted} and a line feed is wanted, \"{there}\" is there")?;
     Ok(VerdictFinding {
         file: VerdictFile::Line(line),
         code: "CK1",
-        text: format!(in alloc;
-            "{wanted} and a line feed is wanted, \"{}\" is there",
-            Shown(bytes)
-        )?,
+        text,
     })
 }
 

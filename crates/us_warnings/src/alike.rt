@@ -1,4 +1,4 @@
-use crate::parts::Part;
+use crate::parts::{Noun, Part};
 
 /// Rows that are alike: how many there are, and the line of the first.
 #[derive(Clone, Copy)]
@@ -30,6 +30,6 @@ impl Alike {
 
     /// How many they are, in words.
     pub(crate) fn counted(&self) -> Part {
-        Part::Counted(self.rows as u64, "row", "rows, the first here")
+        Part::Counted(self.rows as u64, Noun::Row)
     }
 }

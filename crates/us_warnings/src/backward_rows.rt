@@ -26,7 +26,7 @@ impl BackwardRows {
     /// No row yet.
     pub(crate) fn new(config: &Config) -> BackwardRows {
         BackwardRows {
-            far_ticks: u64::from(FAR_LEADS) * u64::from(config.lead_ticks()),
+            far_ticks: FAR_LEADS as u64 * config.lead_ticks() as u64,
             greatest: RowAt { tick: 0, line: 0 },
             back: Alike::new(),
             first: None,
@@ -40,7 +40,7 @@ impl BackwardRows {
             self.greatest = row;
             return;
         };
-        if u64::from(ticks) > self.far_ticks {
+        if ticks as u64 > self.far_ticks {
             if self.first.is_none() {
                 self.first = Some((row, self.greatest));
             }

@@ -78,17 +78,19 @@ impl NamedSids {
         false
     }
 
+    /// Whether a row names this SID.
+    fn has(&self, channel: u8, sid: u16) -> bool {
+        match self.named.get(place_of(channel, sid)) {
+            Some(named) => *named > 0,
+            None => false,
+        }
+    }
+
     /// Whether a row names one of the SIDs of a cluster, each of which is on its channel.
     fn have_one(&self, channels: &[u8], sids: &[u16]) -> bool {
         for (place, channel) in channels.iter().enumerate() {
             if let Some(sid) = sids.get(place) {
-                if self
-                    .named
-                    .get(place_of(*channel, *sid))
-                    .copied()
-                    .unwrap_or(0)
-                    > 0
-                {
+                if self.has(*channel, *sid) {
                     return true;
                 }
             }
@@ -99,7 +101,7 @@ impl NamedSids {
 
 /// Where a SID of a channel stands among all.
 fn place_of(channel: u8, sid: u16) -> usize {
-    usize::from(channel) * SIDS + usize::from(sid)
+    channel as usize * SIDS + sid as usize
 }
 
 /// Whether a row of this kind asks for something of what a SID stands for.

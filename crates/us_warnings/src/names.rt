@@ -1,4 +1,3 @@
-use us_findings::KeyPath;
 use us_flows::{Config, Place, TableName};
 
 /// A table as a warning calls it: its place, and its id.
@@ -36,14 +35,5 @@ impl TableId {
             }
         }
         TableId::new(TableName::Station, 0, id)
-    }
-
-    /// A key of this table, or the table itself.
-    pub(crate) fn path(&self, key: Option<&'static str>) -> KeyPath<'static> {
-        KeyPath {
-            place: self.place,
-            profile: None,
-            key,
-        }
     }
 }

@@ -2,25 +2,93 @@ use crate::names::TableId;
 use std::alloc::{AllocError, Global};
 use std::fmt;
 
-/// What stands among the words of a warning.
+/// What stands among the words of a warning. It holds no reference.
 #[derive(Clone, Copy)]
 pub(crate) enum Part {
     Number(u64),
-    Text(&'static str),
+    Text(Text),
     Table(TableId),
-    /// So many of something: what one of them is called, and several.
-    Counted(u64, &'static str, &'static str),
+    /// So many of something.
+    Counted(u64, Noun),
 }
+
+/// Words that not every warning of a kind has.
+#[derive(Clone, Copy)]
+pub(crate) enum Text {
+    Nothing,
+    First,
+    WhileActive,
+    Requests,
+    Marks,
+    NoRows,
+}
+
+/// These, in the same order.
+static TEXTS: [&str; 6] = [
+    "",
+    "the first ",
+    " while it is active",
+    "requests alone, which are rows of kind 0",
+    "marks alone, which are rows of kind 1 or 2",
+    "no rows, since its grants come unasked",
+];
+
+/// What is counted.
+#[derive(Clone, Copy)]
+pub(crate) enum Noun {
+    Row,
+    Line,
+    Window,
+    Minislot,
+    BusyChannel,
+    UnknownSid,
+    UnusedSid,
+    SilentFlow,
+    EntryWithoutMinislot,
+    EntryWithoutRoom,
+}
+
+/// These, in the same order: what one of them is called, and several.
+static NOUNS: [[&str; 2]; 10] = [
+    ["row", "rows, the first here"],
+    ["line", "lines"],
+    ["window", "windows"],
+    ["minislot", "minislots"],
+    [
+        "more channel whose calendar asks for too much",
+        "more channels whose calendars ask for too much, the first here",
+    ],
+    [
+        "more SID that no flow has",
+        "more SIDs that no flow has, the first here",
+    ],
+    [
+        "more SID with rows of a kind that its flow doesn't take",
+        "more SIDs with rows of kinds that their flows don't take, the first here",
+    ],
+    [
+        "more flow that no row of the trace names",
+        "more flows that no row of the trace names, the first here",
+    ],
+    [
+        "more entry with windows in which no minislot begins",
+        "more entries with windows in which no minislot begins, the first here",
+    ],
+    [
+        "more entry with windows that have no room for a grant",
+        "more entries with windows that have no room for a grant, the first here",
+    ],
+];
 
 impl fmt::Display for Part {
     fn fmt<W: fmt::Write>(&self, f: &mut fmt::Formatter<W>) -> fmt::Result {
         match *self {
             Part::Number(number) => write!(f, "{number}"),
-            Part::Text(text) => f.write_str(text),
+            Part::Text(text) => f.write_str(TEXTS[text as usize]),
             Part::Table(TableId { place, id }) => write!(f, "{place} (id {id})"),
-            Part::Counted(count, one, many) => {
-                let noun = if count == 1 { one } else { many };
-                write!(f, "{count} {noun}")
+            Part::Counted(count, noun) => {
+                let [one, many] = NOUNS[noun as usize];
+                write!(f, "{count} {}", if count == 1 { one } else { many })
             }
         }
     }

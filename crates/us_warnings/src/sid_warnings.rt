@@ -1,9 +1,9 @@
 use crate::alike::SidRows;
 use crate::named_sids::{NamedSids, Refused};
 use crate::names::TableId;
-use crate::parts::Part;
+use crate::parts::{Noun, Part, Text};
 use crate::sid_owners::owner_of;
-use crate::warnings::{Subject, Tally, Warnings};
+use crate::warnings::{Key, Subject, Tally, Warnings};
 use us_flows::{Config, SchedulingType, TableName};
 
 /// SIDs that no flow has.
@@ -11,37 +11,31 @@ pub(crate) fn push_unknown(warnings: &mut Warnings, config: &Config, unknown: &R
     for told in &unknown.told {
         add_unknown(warnings, config, told);
     }
-    warnings.add_others(
-        &unknown.tally,
-        "more SID that no flow has",
-        "more SIDs that no flow has, the first here",
-    );
+    warnings.add_others(&unknown.tally, Noun::UnknownSid);
 }
 
 /// That no flow has a SID on a channel.
 fn add_unknown(warnings: &mut Warnings, config: &Config, unknown: &SidRows) {
     let subject = Subject::Row(unknown.rows.line);
-    let (channel, sid) = (
-        Part::Number(u64::from(unknown.channel)),
-        Part::Number(u64::from(unknown.sid)),
-    );
+    let channel = Part::Number(unknown.channel as u64);
+    let sid = Part::Number(unknown.sid as u64);
     let rows = unknown.rows.counted();
     if !has_channel(config, unknown.channel) {
         let words = "channel: no channel has id #, which stands with SID #: #";
-        warnings.add(subject, words, &[channel, sid, rows]);
-        return;
+        return warnings.add(subject, words, &[channel, sid, rows]);
     }
-    let Some(owner) = owner_of(config, unknown.sid, None) else {
-        let words = "sid: no flow has SID # on channel #: #";
-        warnings.add(subject, words, &[sid, channel, rows]);
-        return;
-    };
-    let (flow, its_channel) = (
-        Part::Table(owner.flow),
-        Part::Number(u64::from(owner.channel)),
-    );
-    let words = "sid: no flow has SID # on channel #, # has it on channel #: #";
-    warnings.add(subject, words, &[sid, channel, flow, its_channel, rows]);
+    match owner_of(config, unknown.sid, None) {
+        Some(owner) => {
+            let flow = Part::Table(owner.flow);
+            let its_channel = Part::Number(owner.channel as u64);
+            let words = "sid: no flow has SID # on channel #, # has it on channel #: #";
+            warnings.add(subject, words, &[sid, channel, flow, its_channel, rows]);
+        }
+        None => {
+            let words = "sid: no flow has SID # on channel #: #";
+            warnings.add(subject, words, &[sid, channel, rows]);
+        }
+    }
 }
 
 /// Whether a channel has this id.
@@ -59,11 +53,7 @@ pub(crate) fn push_unused(warnings: &mut Warnings, config: &Config, unused: &Ref
     for told in &unused.told {
         add_unused(warnings, config, told);
     }
-    warnings.add_others(
-        &unused.tally,
-        "more SID with rows of a kind that its flow doesn't take",
-        "more SIDs with rows of kinds that their flows don't take, the first here",
-    );
+    warnings.add_others(&unused.tally, Noun::UnusedSid);
 }
 
 /// That the flow with a SID on a channel doesn't take these rows.
@@ -76,8 +66,8 @@ fn add_unused(warnings: &mut Warnings, config: &Config, unused: &SidRows) {
         Subject::Row(unused.rows.line),
         "sid: SID # on channel # is of #, which is of type # and takes #: #",
         &[
-            Part::Number(u64::from(unused.sid)),
-            Part::Number(u64::from(owner.channel)),
+            Part::Number(unused.sid as u64),
+            Part::Number(owner.channel as u64),
             Part::Table(owner.flow),
             Part::Number(kind),
             Part::Text(taken),
@@ -87,14 +77,13 @@ fn add_unused(warnings: &mut Warnings, config: &Config, unused: &SidRows) {
 }
 
 /// The number of a scheduling type in the configuration, and which rows a flow of it takes.
-fn taken_by(kind: SchedulingType) -> (u64, &'static str) {
-    let requests = "requests alone, which are rows of kind 0";
+fn taken_by(kind: SchedulingType) -> (u64, Text) {
     match kind {
-        SchedulingType::BestEffort => (2, requests),
-        SchedulingType::NonRealTimePolling => (3, requests),
-        SchedulingType::RealTimePolling => (4, requests),
-        SchedulingType::ActivityDetection => (5, "marks alone, which are rows of kind 1 or 2"),
-        SchedulingType::UnsolicitedGrant => (6, "no rows, since its grants come unasked"),
+        SchedulingType::BestEffort => (2, Text::Requests),
+        SchedulingType::NonRealTimePolling => (3, Text::Requests),
+        SchedulingType::RealTimePolling => (4, Text::Requests),
+        SchedulingType::ActivityDetection => (5, Text::Marks),
+        SchedulingType::UnsolicitedGrant => (6, Text::NoRows),
     }
 }
 
@@ -110,16 +99,12 @@ pub(crate) fn push_silent_flows(warnings: &mut Warnings, config: &Config, named:
             );
         }
     }
-    warnings.add_others(
-        &tally,
-        "more flow that no row of the trace names",
-        "more flows that no row of the trace names, the first here",
-    );
+    warnings.add_others(&tally, Noun::SilentFlow);
 }
 
 /// That no row names a flow.
 fn add_silent(warnings: &mut Warnings, tally: &mut Tally, flow: TableId) {
-    let subject = Subject::Key(flow.path(Some("id")));
+    let subject = Subject::Key(flow.place, Key::Id);
     if !tally.add(subject) {
         return;
     }

@@ -1,12 +1,13 @@
+ghost use Rattle.us_flows.specs.Lawful.{IsChannel};
+
 use crate::loads::{Load, MAX_ASSIGNMENTS};
 use crate::names::TableId;
-use crate::parts::Part;
+use crate::parts::{Noun, Part};
 use crate::runs::Run;
-use crate::warnings::{Subject, Tally, Warnings};
-use crate::window_warnings::{add_hopeless, push_windows};
+use crate::warnings::{Key, Subject, TOP, Tally, Warnings};
+use crate::window_warnings::{HopelessEntry, add_hopeless, push_windows};
 use us_calendar::entries_of;
-use us_findings::KeyPath;
-use us_flows::{Config, Place, TableName};
+use us_flows::{Channel, Config, TableName};
 use us_slots::NoMemory;
 
 impl Warnings {
@@ -30,9 +31,9 @@ fn push_lead(warnings: &mut Warnings, config: &Config, run: &Run) {
     if first < run.rounds || config.clusters() == 0 {
         return;
     }
-    let (first, last) = (u64::from(first), u64::from(run.last_round()));
+    let (first, last) = (first as u64, run.last_round() as u64);
     warnings.add(
-        top_key("lead_ticks"),
+        Subject::Key(TOP, Key::LeadTicks),
         "lead_ticks: a row at tick 0 belongs to round #, and the run ends with round #, so all rows are late; \
         a smaller lead or --rounds # is wanted",
         &[
@@ -43,18 +44,6 @@ fn push_lead(warnings: &mut Warnings, config: &Config, run: &Run) {
     );
 }
 
-/// A key of the top level.
-fn top_key(key: &'static str) -> Subject {
-    Subject::Key(KeyPath {
-        place: Place {
-            table: TableName::Top,
-            index: 0,
-        },
-        profile: None,
-        key: Some(key),
-    })
-}
-
 /// What looks wrong in the calendars of all channels.
 fn push_calendars(
     text: &[u8],
@@ -62,27 +51,51 @@ fn push_calendars(
     config: &Config,
     run: &Run,
 ) -> Result<(), NoMemory> {
-    let alloc = warnings.alloc;
-    let mut tally = Tally::new();
-    let mut hopeless = Vec::new(alloc);
+    let mut seen = SeenCalendars {
+        too_much: Tally::new(),
+        hopeless: Vec::new(warnings.alloc),
+    };
     for (index, channel) in config.channels().iter().enumerate() {
-        let entries = entries_of(alloc, config, channel)?;
-        let table = TableId::new(TableName::Channel, index, u16::from(channel.id));
-        push_load(warnings, &mut tally, table, &Load::of(&entries, run), run);
-        add_hopeless(&mut hopeless, config, channel, &entries, run)?;
+        seen.add(warnings, config, index, channel, run)?;
     }
-    warnings.add_others(
-        &tally,
-        "more channel whose calendar asks for too much",
-        "more channels whose calendars ask for too much, the first here",
-    );
-    push_windows(text, warnings, &hopeless, run)
+    warnings.add_others(&seen.too_much, Noun::BusyChannel);
+    push_windows(text, warnings, &seen.hopeless, run)
+}
+
+/// What was seen in the calendars of some channels.
+#[derive(Drop)]
+struct SeenCalendars {
+    /// The channels whose calendars ask for too much.
+    too_much: Tally,
+    hopeless: Vec<HopelessEntry>,
+}
+
+impl SeenCalendars {
+    /// One more channel, at this index of the table.
+    fn add(
+        &mut self,
+        warnings: &mut Warnings,
+        config: &Config,
+        index: usize,
+        channel: &Channel,
+        run: &Run,
+    ) -> Result<(), NoMemory>
+        requires { IsChannel config.now channel.now }
+    {
+        let entries = entries_of(warnings.alloc, config, channel)?;
+        let table = TableId::new(TableName::Channel, index, channel.id as u16);
+        let load = Load::of(&entries, run);
+        if load.is_too_much() {
+            push_load(warnings, &mut self.too_much, table, &load, run);
+        }
+        Ok(add_hopeless(&mut self.hopeless, config, channel, &entries, run)?)
+    }
 }
 
 /// That a calendar asks for more assignments than MAPs have.
 fn push_load(warnings: &mut Warnings, tally: &mut Tally, channel: TableId, load: &Load, run: &Run) {
-    let subject = Subject::Key(channel.path(None));
-    if !load.is_too_much() || !tally.add(subject) {
+    let subject = Subject::Key(channel.place, Key::Table);
+    if !tally.add(subject) {
         return;
     }
     warnings.add(
@@ -93,8 +106,8 @@ fn push_load(warnings: &mut Warnings, tally: &mut Tally, channel: TableId, load:
             Part::Table(channel),
             Part::Number(load.assignments()),
             Part::Number(MAX_ASSIGNMENTS),
-            Part::Number(u64::from(run.last_round())),
-            Part::Counted(load.lines, "line", "lines"),
+            Part::Number(run.last_round() as u64),
+            Part::Counted(load.lines, Noun::Line),
             Part::Number(load.bytes()),
         ],
     );

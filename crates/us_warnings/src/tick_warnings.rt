@@ -25,7 +25,7 @@ pub(crate) fn push_late(
             config.most_rounds(),
         ),
     };
-    let (last, number) = (u64::from(rounds.saturating_sub(1)), u64::from(number));
+    let (last, number) = (rounds.saturating_sub(1) as u64, number as u64);
     warnings.add(
         Subject::Row(late.line),
         words,
@@ -57,9 +57,9 @@ pub(crate) fn push_backward(warnings: &mut Warnings, backward: &BackwardRows) {
         "tick: # goes back by more than # leads from # in line #; rows may stand in any order, but is this another \
         trace put behind the first? #",
         &[
-            Part::Number(u64::from(row.tick)),
-            Part::Number(u64::from(FAR_LEADS)),
-            Part::Number(u64::from(before.tick)),
+            Part::Number(row.tick as u64),
+            Part::Number(FAR_LEADS as u64),
+            Part::Number(before.tick as u64),
             Part::Number(before.line as u64),
             backward.back.counted(),
         ],

@@ -1,5 +1,5 @@
-use crate::parts::{Part, text_of};
-use std::alloc::{AllocError, Global};
+use crate::parts::{Noun, Part, text_of};
+use std::alloc::Global;
 use us_findings::{Finding, KeyPath, Source, What};
 use us_flows::{Place, TableName};
 
@@ -12,17 +12,32 @@ pub(crate) enum Subject {
     /// A row of the trace, by its line.
     Row(usize),
     /// A table of the configuration, or a key of one.
-    Key(KeyPath<'static>),
+    Key(Place, Key),
 }
 
-/// What a warning of the trace is about in the configuration.
-const NOWHERE: KeyPath<'static> = KeyPath {
-    place: Place {
-        table: TableName::Top,
-        index: 0,
-    },
-    profile: None,
-    key: None,
+/// A key that a warning is about, or that it is about a table.
+#[derive(Clone, Copy)]
+pub(crate) enum Key {
+    Table,
+    Id,
+    JitterUs,
+    LeadTicks,
+}
+
+/// These, in the same order.
+static KEYS: [Option<&str>; 4] = [None, Some("id"), Some("jitter_us"), Some("lead_ticks")];
+
+impl Key {
+    /// Where it is in the table at this place.
+    pub(crate) fn path(self, place: Place) -> KeyPath<'static> {
+        KeyPath::of(place, KEYS[self as usize])
+    }
+}
+
+/// The top level of the configuration.
+pub(crate) const TOP: Place = Place {
+    table: TableName::Top,
+    index: 0,
 };
 
 /// What looks wrong in a configuration and a trace. What is of the configuration has no lines before [`Warnings::located`].
@@ -49,32 +64,34 @@ impl Warnings {
 
     /// Adds a warning in words that have a part in the place of each `#`.
     pub(crate) fn add(&mut self, subject: Subject, words: &str, parts: &[Part]) {
-        if self.push(subject, words, parts).is_err() {
-            self.lacks_memory = true;
+        match text_of(self.alloc, words, parts) {
+            Ok(text) => self.push(subject, text),
+            Err(_) => self.lacks_memory = true,
         }
     }
 
-    /// The same, where there is memory for it.
-    fn push(&mut self, subject: Subject, words: &str, parts: &[Part]) -> Result<(), AllocError> {
+    /// Adds a warning with this text.
+    fn push(&mut self, subject: Subject, text: String) {
         let (source, line, path) = match subject {
-            Subject::Row(line) => (Source::Trace, line, NOWHERE),
-            Subject::Key(path) => (Source::Config, 1, path),
+            Subject::Row(line) => (Source::Trace, line, Key::Table.path(TOP)),
+            Subject::Key(place, key) => (Source::Config, 1, key.path(place)),
         };
-        self.paths.push(path)?;
-        self.findings.push(Finding {
+        let finding = Finding {
             source,
             what: What::Warning,
             line,
             column: 1,
-            text: text_of(self.alloc, words, parts)?,
-        })?;
-        Ok(())
+            text,
+        };
+        if self.findings.push(finding).is_err() || self.paths.push(path).is_err() {
+            self.lacks_memory = true;
+        }
     }
 
-    /// Adds how many there are that weren't told by themselves: what one of them is called, and several.
-    pub(crate) fn add_others(&mut self, tally: &Tally, one: &'static str, many: &'static str) {
+    /// Adds how many there are that weren't told by themselves.
+    pub(crate) fn add_others(&mut self, tally: &Tally, noun: Noun) {
         if let Some(subject) = tally.first_other {
-            self.add(subject, "#", &[Part::Counted(tally.others(), one, many)]);
+            self.add(subject, "#", &[Part::Counted(tally.others(), noun)]);
         }
     }
 }

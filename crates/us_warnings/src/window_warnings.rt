@@ -3,9 +3,9 @@ ghost use Rattle.us_flows.specs.Lawful.{IsChannel};
 use crate::empty_maps::EmptyMaps;
 use crate::hopeless_windows::{ClosedWindows, HopelessWindows, Lack, MAX_WINDOWS, closed_windows};
 use crate::names::TableId;
-use crate::parts::Part;
+use crate::parts::{Noun, Part, Text};
 use crate::runs::Run;
-use crate::warnings::{Subject, Tally, Warnings};
+use crate::warnings::{Key, Subject, Tally, Warnings};
 use std::alloc::{AllocError, Global};
 use us_calendar::{Entry, Kind};
 use us_findings::{KeyPath, Spot, spots_of};
@@ -37,15 +37,14 @@ pub(crate) fn add_hopeless(
     let maps = EmptyMaps::of(config, channel);
     for entry in entries {
         let windows = closed_windows(entry, channel.bursts.time(), &maps, run.quarters());
-        if windows.all_have_hope() {
-            continue;
+        if !windows.all_have_hope() {
+            hopeless.push(HopelessEntry {
+                table: table_of(config, entry),
+                slots: entry.slots_of(true),
+                may_be_silent: entry.silence.is_some(),
+                windows,
+            })?;
         }
-        hopeless.push(HopelessEntry {
-            table: table_of(config, entry),
-            slots: entry.slots_of(true),
-            may_be_silent: entry.silence.is_some(),
-            windows,
-        })?;
     }
     Ok(())
 }
@@ -80,12 +79,21 @@ fn order_of(
     config_text: &[u8],
     hopeless: &[HopelessEntry],
 ) -> Result<Vec<(usize, usize)>, NoMemory> {
-    let mut paths = Vec::new(alloc);
-    for entry in hopeless {
-        paths.push(entry.path())?;
-    }
+    let paths = paths_of(alloc, hopeless)?;
     let spots = spots_of(alloc, str::from_utf8(config_text).unwrap_or(""), &paths)?;
     Ok(sorted(alloc, &spots)?)
+}
+
+/// The keys that are to be mended.
+fn paths_of(
+    alloc: Global,
+    hopeless: &[HopelessEntry],
+) -> Result<Vec<KeyPath<'static>>, AllocError> {
+    let mut paths = Vec::new(alloc);
+    for entry in hopeless {
+        paths.push(Key::JitterUs.path(entry.table.place))?;
+    }
+    Ok(paths)
 }
 
 /// Where these spots are and the place of each among them, sorted.
@@ -110,38 +118,37 @@ fn push_lacking(
     for (_, place) in order {
         if let Some(entry) = hopeless.get(*place) {
             let windows = entry.windows.hopeless(lack);
-            if windows.count > 0 && tally.add(Subject::Key(entry.path())) {
+            if windows.count > 0 && tally.add(entry.subject()) {
                 entry.push(warnings, lack, windows, run);
             }
         }
     }
-    let [_, one, many] = words_of(lack);
-    warnings.add_others(&tally, one, many);
+    let noun = match lack {
+        Lack::Minislot => Noun::EntryWithoutMinislot,
+        Lack::Room => Noun::EntryWithoutRoom,
+    };
+    warnings.add_others(&tally, noun);
 }
 
-/// What is said of an entry with such windows, and what one more such entry is called, and several.
-fn words_of(lack: Lack) -> [&'static str; 3] {
+/// What is said of an entry with such windows.
+fn words_of(lack: Lack) -> &'static str {
     match lack {
-        Lack::Minislot => [
+        Lack::Minislot => {
             "#, jitter_us:## no minislot begins in # of ## closed by round #; the first of them, of interval #, counted \
-            from 0, closes in round #; another start_us or a greater jitter_us is wanted",
-            "more entry with windows in which no minislot begins",
-            "more entries with windows in which no minislot begins, the first here",
-        ],
-        Lack::Room => [
+            from 0, closes in round #; another start_us or a greater jitter_us is wanted"
+        }
+        Lack::Room => {
             "#, jitter_us: whatever the schedule, there is no room for its grants of ## beside the reserves in # of ## \
             closed by round #; the first of them, of interval #, counted from 0, closes in round #; another start_us, \
-            a greater jitter_us or smaller reserves are wanted",
-            "more entry with windows that have no room for a grant",
-            "more entries with windows that have no room for a grant, the first here",
-        ],
+            a greater jitter_us or smaller reserves are wanted"
+        }
     }
 }
 
 impl HopelessEntry {
     /// The key that is to be mended.
-    fn path(&self) -> KeyPath<'static> {
-        self.table.path(Some("jitter_us"))
+    fn subject(&self) -> Subject {
+        Subject::Key(self.table.place, Key::JitterUs)
     }
 
     /// That no schedule could grant some of its windows, for this reason.
@@ -150,18 +157,18 @@ impl HopelessEntry {
         let round = windows.first_end / run.round_quarters();
         let [grants, activity] = self.grants(lack);
         warnings.add(
-            Subject::Key(self.path()),
-            words_of(lack)[0],
+            self.subject(),
+            words_of(lack),
             &[
                 Part::Table(self.table),
                 grants,
                 activity,
-                Part::Number(u64::from(windows.count)),
-                when(closed == MAX_WINDOWS, "the first "),
-                Part::Counted(u64::from(closed), "window", "windows"),
-                Part::Number(u64::from(run.last_round())),
-                Part::Number(u64::from(windows.first_interval)),
-                Part::Number(u64::from(round)),
+                Part::Number(windows.count as u64),
+                when(closed == MAX_WINDOWS, Text::First),
+                Part::Counted(closed as u64, Noun::Window),
+                Part::Number(run.last_round() as u64),
+                Part::Number(windows.first_interval as u64),
+                Part::Number(round as u64),
             ],
         );
     }
@@ -169,16 +176,16 @@ impl HopelessEntry {
     /// How long its grants are and when it has them, where that has to do with what lacks.
     fn grants(&self, lack: Lack) -> [Part; 2] {
         match lack {
-            Lack::Minislot => [Part::Text(""), Part::Text("")],
+            Lack::Minislot => [Part::Text(Text::Nothing); 2],
             Lack::Room => [
-                Part::Counted(u64::from(self.slots), "minislot", "minislots"),
-                when(self.may_be_silent, " while it is active"),
+                Part::Counted(self.slots as u64, Noun::Minislot),
+                when(self.may_be_silent, Text::WhileActive),
             ],
         }
     }
 }
 
 /// These words, if they are wanted.
-fn when(is_wanted: bool, words: &'static str) -> Part {
-    Part::Text(if is_wanted { words } else { "" })
+fn when(is_wanted: bool, words: Text) -> Part {
+    Part::Text(if is_wanted { words } else { Text::Nothing })
 }

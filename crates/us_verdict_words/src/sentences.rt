@@ -1,0 +1,209 @@
+use std::fmt;
+
+/// Words with numbers among them. Of its words it has only which these are, so that it holds no reference.
+#[derive(Clone, Copy)]
+pub(crate) struct Sentence(pub(crate) Words, pub(crate) [u64; 4]);
+
+/// The words of a sentence.
+#[derive(Clone, Copy)]
+pub(crate) enum Words {
+    /// That something is wanted, and something else is there.
+    Exact(Name),
+    /// The same of a range.
+    Range(Name),
+    /// Words with a number in the place of each `#`.
+    Plain(Text),
+}
+
+/// Nothing is said.
+pub(crate) const NOTHING: Sentence = Sentence(Words::Plain(Text::Nothing), [0; 4]);
+
+impl Sentence {
+    /// Words with up to four numbers.
+    pub(crate) fn new(text: Text, numbers: [u64; 4]) -> Sentence {
+        Sentence(Words::Plain(text), numbers)
+    }
+
+    /// Words with one number.
+    pub(crate) fn of(text: Text, number: u64) -> Sentence {
+        Sentence(Words::Plain(text), [number, 0, 0, 0])
+    }
+
+    /// That one number is wanted, and another is there.
+    pub(crate) fn wanted(name: Name, wanted: u64, there: u64) -> Sentence {
+        Sentence(Words::Exact(name), [wanted, there, 0, 0])
+    }
+}
+
+impl fmt::Display for Sentence {
+    fn fmt<W: fmt::Write>(&self, f: &mut fmt::Formatter<W>) -> fmt::Result {
+        let [a, b, c, _] = self.1;
+        match self.0 {
+            Words::Exact(name) => write!(
+                f,
+                "{}: {a} is wanted, {b} is there",
+                NAMES[name as usize]
+            ),
+            Words::Range(name) => {
+                write!(
+                    f,
+                    "{}: {a} to {b} is wanted, {c} is there",
+                    NAMES[name as usize]
+                )
+            }
+            Words::Plain(text) => {
+                write!(f, "{}", us_findings::Sentence(TEXTS[text as usize], self.1))
+            }
+        }
+    }
+}
+
+/// What a number is called.
+#[derive(Clone, Copy)]
+pub(crate) enum Name {
+    Round,
+    Channel,
+    UcdCount,
+    AllocStart,
+    AckTime,
+    RangingStart,
+    RangingEnd,
+    DataStart,
+    DataEnd,
+    Length,
+    Records,
+    RoundOfRun,
+    Channels,
+    Entries,
+    K,
+    Sid,
+    Iuc,
+    Slots,
+    Credit,
+    Start,
+    ClosingRound,
+    Flows,
+    RequestingFlows,
+    FlowsOnChannel,
+    I,
+    SlotsOfCredit,
+    Outstanding,
+    NumbersWithoutRate,
+    NumbersWithRate,
+    Units,
+    Active,
+    Unknown,
+    NotRequestable,
+    Late,
+}
+
+/// These, in the same order.
+static NAMES: [&str; 34] = [
+    "round",
+    "channel",
+    "UCD Count",
+    "Alloc Start Time",
+    "Ack Time",
+    "Ranging Backoff Start",
+    "Ranging Backoff End",
+    "Data Backoff Start",
+    "Data Backoff End",
+    "length in minislots",
+    "records",
+    "round, below --rounds",
+    "channels with this id",
+    "flows or stations with this entry and id",
+    "k",
+    "SID",
+    "IUC",
+    "slots",
+    "credit",
+    "start, counted from round 0",
+    "round in which the window closes",
+    "flows with this id",
+    "flows of types 2, 3 and 4 with this id",
+    "flows on this channel with this id",
+    "i",
+    "slots of the credit",
+    "outstanding",
+    "numbers in the place of -, as the rate is 0",
+    "numbers in the place of -, as the flow has a rate",
+    "units",
+    "active",
+    "unknown",
+    "not_requestable",
+    "late",
+];
+
+/// Other words.
+#[derive(Clone, Copy)]
+pub(crate) enum Text {
+    Nothing,
+    NoLine,
+    OneLine,
+    TwoLines,
+    ThreeLines,
+    FourLines,
+    FiveLines,
+    MoreLines,
+    Place,
+    Map,
+    Flow,
+    Cluster,
+    Record,
+    RecordOfMap,
+    FinalLine,
+    FinalLinesFrom,
+    ActivityLine,
+    CountsLine,
+    FileEnd,
+    Rounds,
+    Minislot,
+    LineSpan,
+    MaintenanceSpan,
+    ContentionSpan,
+    Gap,
+    MapSpan,
+    Occurrence,
+    Starts,
+    Credited,
+    Bucket,
+    Left,
+    Lines,
+}
+
+/// These, in the same order.
+static TEXTS: [&str; 32] = [
+    "",
+    "no line",
+    "this line",
+    "this line and line #",
+    "this line and line # and line #",
+    "this line and line # and line # and line #",
+    "this line and line # and line # and line # and line #",
+    " and # more",
+    "round #, channel #, id #",
+    "round #, channel #",
+    "round #, flow #",
+    "round #, flow #, cluster #",
+    "record #, at byte #",
+    "record #, at byte # (round #, channel #)",
+    "F line of flow #, cluster #",
+    "F line of flow #, cluster # or higher",
+    "A line of flow #",
+    "U line",
+    ", at byte #",
+    "the file has # rounds, --rounds says #",
+    "minislot # of #: granted by ",
+    "; this line has start #, slots #, SID #, IUC #",
+    "; the maintenance reserve has start #, slots #, SID #, IUC #",
+    "; the contention reserve has start #, slots #, SID #, IUC #",
+    "; wanted is a gap, start #, slots #, SID #, IUC #",
+    "; the MAP has start #, slots #, SID #, IUC #",
+    "interval #, k #: lines wanted: 1; there is ",
+    "; it may start from minislot # on, before #, counted from round 0",
+    "# bytes are credited by ",
+    "; the bucket has #",
+    "; outstanding are #",
+    "lines wanted: #; there is ",
+];
