@@ -10,7 +10,7 @@ use Rattle.us_codec.specs.Bodies.{MapBody, IsMapBody, SpellsMap}
 use Rattle.us_codec.specs.declared.maps_files.Record.{Record}
 use Rattle.us_codec.specs.MapsFiles.{IsPiece, maps_file}
 use Rattle.us_codec.specs.Records.{IsMapsFile, piece_at}
-use Rattle.us_lawful.specs.declared.judged.RoundMap.{RoundMap}
+use Rattle.us_lawful.specs.Runs.{RoundMap}
 use Rattle.us_lawful.specs.Lawful.{IsRoundMap}
 use Rattle.us_lawful.specs.Texts.{record_of}
 use Rattle.mapsim.specs.MapLines.{lines_of}

@@ -2,7 +2,7 @@
 use Rattle.std.specs.Prelude.{◌≡◌, ℕ, List, map, flat_map}
 use Rattle.std.specs.List.{AllByRecursion}
 use Rattle.us_codec.specs.MapsFiles.{maps_file}
-use Rattle.us_lawful.specs.declared.judged.RoundMap.{RoundMap}
+use Rattle.us_lawful.specs.Runs.{RoundMap}
 use Rattle.us_lawful.specs.Lawful.{IsRoundMap}
 use Rattle.us_lawful.specs.Texts.{record_of}
 use Rattle.mapsim.specs.MapLines.{lines_of}

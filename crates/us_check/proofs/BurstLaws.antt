@@ -22,8 +22,7 @@ use Rattle.us_output.specs.declared.rows.Grant.{Grant}
 use Rattle.us_output.specs.declared.rows.Row.{Row}
 use Rattle.us_output.specs.declared.rows.Row.TheVariants as rows
 use Rattle.us_reports.specs.declared.place.Place.{Place}
-use Rattle.us_lawful.specs.declared.judged.RoundMap.{RoundMap}
-use Rattle.us_lawful.specs.Runs.{Run, Judged, grants_in, requested_in}
+use Rattle.us_lawful.specs.Runs.{Run, RoundMap, Judged, grants_in, requested_in}
 use Rattle.us_reports.specs.Rows.{is_requested}
 use Rattle.us_lawful.specs.Headings.{Heading, heading_of, heading_told, null_offset}
 use Rattle.us_lawful.specs.Places.{is_told_at, has_place, places_hold}

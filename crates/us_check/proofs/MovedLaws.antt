@@ -10,9 +10,8 @@ use Rattle.us_flows.specs.Clusters.{Cluster, Turn, table_order}
 use Rattle.us_calendar.specs.Entries.{Entry, WordedFlow}
 use Rattle.us_output.specs.declared.rows.Grant.{Grant}
 use Rattle.us_output.specs.declared.rows.Row.{Row}
-use Rattle.us_lawful.specs.declared.judged.RoundMap.{RoundMap}
 use Rattle.us_reports.specs.declared.place.Place.{Place}
-use Rattle.us_lawful.specs.Runs.{Run, Judged, activities_in, as_activity, as_counts, as_final, as_grant, counts_in, counts_told, finals_in, grants_in, requested_in}
+use Rattle.us_lawful.specs.Runs.{Run, RoundMap, Judged, activities_in, as_activity, as_counts, as_final, as_grant, counts_in, counts_told, finals_in, grants_in, requested_in}
 use Rattle.us_reports.specs.Rows.{is_requested}
 use Rattle.us_lawful.specs.Places.{is_told_at, places_hold}
 use Rattle.us_lawful.specs.Regions.{channel_holds, grant_regions, region_of, regions_hold, regions_of, reserve_regions}

@@ -1,5 +1,5 @@
 -- Reading a report line by line, and at places.
-use Rattle.std.proofs.Common.{◌≡◌, ℕ, ◌+◌, ◌<◌, ◌≤◌, List, [], ◌∷◌, ◌++◌, length, take, drop, get_or, Option, Some, None, option_map, option_to_list, refl, ap, ◌∙◌, arith, add-one, length-append}
+use Rattle.std.proofs.Common.{◌≡◌, ℕ, ◌+◌, ◌<◌, ◌≤◌, List, [], ◌∷◌, ◌++◌, length, take, drop, get_or, Option, Some, None, option_map, option_to_list, refl, sym, ap, ◌∙◌, arith, add-one, length-append}
 use Rattle.std.specs.List.{cons_option}
 use Rattle.std.proofs.Math.Seq.{take-suc}
 use Rattle.std.proofs.lemmas.List.{take_all}
@@ -10,7 +10,11 @@ use Rattle.us_reports.specs.ReportReaders.{row_at}
 use Rattle.us_reports.proofs.ReportLemmas.{Read, less_left, read_bad, read_more, read_nothing, read_whole}
 use Rattle.us_reports.proofs.ReportLineLemmas.{row_again, row_found}
 use Rattle.us_check.specs.declared.judging.Standing.{Standing}
-use Rattle.us_check.specs.Judges.{line_there, lines_there}
+use Rattle.us_flows.specs.Tables.{Tables}
+use Rattle.std.specs.List.{AllByRecursion}
+use Rattle.us_output.proofs.PartLemmas.{all_append}
+use Rattle.us_map_rules.specs.RegionLines.{placed_line}
+use Rattle.us_check.specs.Judges.{IsStanding, line_there, lines_there, map_told}
 
 -- so many lines were read up to a place, and this is so of them
 pub record IsReadTo (Is : List Row → Type 0) (report : List ℕ) (number at : ℕ) : Type 0 where
@@ -80,3 +84,17 @@ there_more report standings i d inside =
 pub there_all : (report : List ℕ) (standings : List Standing) (i : ℕ) → length standings ≤ i →
     lines_there report (take i standings) ≡ lines_there report standings
 there_all report standings i past = ap (lines_there report) (take_all i standings past)
+
+-- these lines stand at places
+abbrev pub AreStandingsOf : Tables → ℕ → List ℕ → List Standing → List Row → Type 0
+AreStandingsOf t rounds report standings lines =
+    (lines_there report standings ≡ lines) × AllByRecursion (IsStanding t rounds report) standings
+
+-- and one more does
+pub standing_more : (t : Tables) (rounds : ℕ) (report : List ℕ) (standings : List Standing) (s : Standing) (row : Row)
+    (lines : List Row) → line_there report s.at ≡ Some row → s.map ≡ map_told (placed_line t rounds row) →
+    AreStandingsOf t rounds report standings lines → AreStandingsOf t rounds report (standings ++ s ∷ []) (lines ++ row ∷ [])
+standing_more t rounds report standings s row lines there is so = (
+  there_behind report standings s ∙ rw there (ap (λ ls. ls ++ row ∷ []) so.0),
+  all_append (IsStanding t rounds report) standings (s ∷ []) so.1 (rw there (ap Some (sym is)), tt),
+)

@@ -4,9 +4,8 @@ use Rattle.std.specs.Prelude.{slice_get}
 use Rattle.std.specs.List.{AllByRecursion}
 use Rattle.std.proofs.lemmas.Bool.{cases_Bool, cases_lt}
 use Rattle.us_output.specs.declared.rows.Row.{Row}
-use Rattle.us_lawful.specs.declared.judged.RoundMap.{RoundMap}
 use Rattle.us_reports.specs.declared.place.Place.{Place}
-use Rattle.us_lawful.specs.Runs.{Run, Judged}
+use Rattle.us_lawful.specs.Runs.{Run, RoundMap, Judged}
 use Rattle.us_lawful.specs.Lawful.{IsLawful}
 use Rattle.us_lawful.specs.Texts.{AreLawful}
 use Rattle.us_reports.specs.Reports.{IsReport, IsFirstBad}

@@ -1,4 +1,4 @@
-ghost use Rattle.std.specs.Prelude.{◌≡◌, true, IfOk};
+ghost use Rattle.std.specs.Prelude.{◌≡◌, true};
 ghost use Rattle.us_flows.specs.Tables.{rounds_fit};
 ghost use Rattle.us_lawful.specs.Runs.{run_in};
 ghost use Rattle.us_check.specs.Verdicts.{Answers};
@@ -12,9 +12,8 @@ use crate::rules::{Breach, Rule};
 use crate::verdicts::Verdict;
 use std::alloc::Global;
 use us_flows::Config;
-use us_map_rules::{MapsFault, headings_breach};
+use us_map_rules::headings_breach;
 use us_requests::Trace;
-use us_slots::NoMemory;
 
 /// Judges a maps file and a report, whoever made them, against the tables of a configuration and the requests of a
 /// trace that was read with it.
@@ -31,34 +30,28 @@ pub fn check(
     requires { rounds_fit config.now trace.now.rounds ≡ true }
     ensures { Answers (run_in config.now trace.now) maps.now report.now result }
 {
-    if let Some(verdict) = maps_verdict(alloc, config, trace, maps)? {
+    if let Some(verdict) = maps_verdict(config, trace, maps) {
         read_lines(report)?;
         return Ok(verdict);
     }
     match lines_breach(alloc, config, trace, maps, report)? {
         None => Ok(Verdict::Holds),
-        Some((rule, place)) => Ok(Verdict::from(Breach { rule, place })),
+        Some(breach) => Ok(Verdict::from(breach)),
     }
 }
 
 /// The verdict on a maps file that breaks a rule by itself, whatever the report tells: P1 or P2.
-fn maps_verdict(
-    alloc: Global,
-    config: &Config,
-    trace: &Trace,
-    maps: &[u8],
-) -> Result<Option<Verdict>, NoMemory>
+fn maps_verdict(config: &Config, trace: &Trace, maps: &[u8]) -> Option<Verdict>
     requires { rounds_fit config.now trace.now.rounds ≡ true }
-    ensures { IfOk result (IsMapsVerdict (run_in config.now trace.now) maps.now) }
+    ensures { IsMapsVerdict (run_in config.now trace.now) maps.now result }
 {
-    match headings_breach(alloc, config, trace, maps) {
-        Ok(None) => Ok(None),
-        Ok(Some(place)) => Ok(Some(Verdict::from(Breach {
+    match headings_breach(config, trace, maps) {
+        Ok(None) => None,
+        Ok(Some(place)) => Some(Verdict::from(Breach {
             rule: Rule::Headings,
             place,
-        }))),
-        Err(MapsFault::Record(index)) => Ok(Some(bad_record(index))),
-        Err(MapsFault::NoMemory) => Err(NoMemory),
+        })),
+        Err(fault) => Some(bad_record(fault.record)),
     }
 }
 

@@ -1,8 +1,8 @@
-ghost use Rattle.std.specs.Prelude.{◌≡◌, ◌++◌, [], List, length, true, option_map, option_to_list, OnOk, IfOk};
+ghost use Rattle.std.specs.Prelude.{◌≡◌, ◌++◌, [], List, length, true, option_to_list, OnOk, IfOk};
+ghost use Rattle.std.specs.List.{AllByRecursion};
 ghost use Rattle.us_flows.specs.Tables.{rounds_fit};
 ghost use Rattle.us_output.specs.declared.rows.Row.{Row as ReportRow};
-ghost use Rattle.us_lawful.specs.declared.judged.RoundMap.{RoundMap};
-ghost use Rattle.us_lawful.specs.Runs.{run_in};
+ghost use Rattle.us_lawful.specs.Runs.{RoundMap, run_in};
 ghost use Rattle.us_reports.specs.Reports.{IsLinesEnd, IsReport};
 ghost use Rattle.us_lawful.specs.Headings.{HeadingsHold};
 ghost use Rattle.us_reports.specs.Breaches.{IsFirstBreach};
@@ -12,11 +12,11 @@ ghost use Rattle.us_check.specs.Verdicts.{IsAnswer};
 
 use crate::faults::CheckFault;
 use crate::judges::Judge;
-use crate::rules::Rule;
+use crate::rules::Breach;
 use std::alloc::Global;
 use us_flows::Config;
 use us_map_rules::map_of;
-use us_reports::{Place, line_at, lines_end};
+use us_reports::{ANY_ROW, line_at, lines_end, read_line};
 use us_requests::Trace;
 use us_slots::NoMemory;
 
@@ -44,15 +44,14 @@ pub(crate) fn lines_breach(
     trace: &Trace,
     maps: &[u8],
     report: &[u8],
-) -> Result<Option<(Rule, Place)>, CheckFault>
+) -> Result<Option<Breach>, CheckFault>
     requires rounds { rounds_fit config.now trace.now.rounds ≡ true }
     requires maps { (ms : List RoundMap) × IsMapsOf maps.now ms }
     ensures { spec.Reads report.now (λ first. (ms : List RoundMap) → IsMapsOf maps.now ms →
         ((lines : List ReportRow) → IsFirstBreach config.now.channels
         (HeadingsHold (run_in config.now trace.now) (record { maps = ms; lines = lines })) None) →
         (lines : List ReportRow) × IsReport report.now lines
-        × IsAnswer (run_in config.now trace.now) (record { maps = ms; lines = lines })
-        (option_map (λ b. record { rule = b.0; place = b.1 }) first)) result }
+        × IsAnswer (run_in config.now trace.now) (record { maps = ms; lines = lines }) first) result }
 {
     let mut judge = told_judge(alloc, config, trace, maps, report)?;
     Ok(judge.breach(alloc, config, trace, maps)?)
@@ -96,11 +95,12 @@ fn take_in_order(
         × spec.AreTold config.now trace.now maps.now ms lines judge.new) result }
 {
     let end = lines_end(report);
+    let mut row = ANY_ROW;
     let mut number = 0;
     let mut at = 0;
     while at < report.len() {
         number += 1;
-        let Some((row, behind)) = line_at(report, end, at) else {
+        let Some(behind) = read_line(report, end, at, &mut row) else {
             return Err(CheckFault::Report(number));
         };
         if !judge.take(config, trace, maps, &row)? {
@@ -125,7 +125,7 @@ fn standings(
     trace: &Trace,
     report: &[u8],
 ) -> Result<Vec<Standing>, CheckFault>
-    ensures { spec.Reads report.now (λ all. spec.AreStandings report.now all.items) result }
+    ensures { spec.Reads report.now (λ all. spec.AreStandings config.now trace.now.rounds report.now all.items) result }
 {
     let mut standings = standings_as_read(alloc, config, trace, report)?;
     standings.sort_unstable_by_key(|standing| standing.map);
@@ -139,7 +139,8 @@ fn standings_as_read(
     trace: &Trace,
     report: &[u8],
 ) -> Result<Vec<Standing>, CheckFault>
-    ensures { spec.Reads report.now (λ all. IsReport report.now (spec.lines_there report.now all.items)) result }
+    ensures { spec.Reads report.now (λ all. IsReport report.now (spec.lines_there report.now all.items)
+        × AllByRecursion (spec.IsStanding config.now trace.now.rounds report.now) all.items) result }
 {
     let end = lines_end(report);
     let mut standings = Vec::new(alloc);

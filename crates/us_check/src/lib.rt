@@ -7,8 +7,8 @@
 //! }
 //! ```
 //!
-//! What a verdict says stands in `specs/`, in the order of its `Lib.antt`. Each rule is a function of one of the crates
-//! `us_map_rules`, `us_calendar_rules` and `us_credit_rules`.
+//! What a verdict says stands in `specs/`, in the order of its `Lib.antt`. Each rule is a state that is told one line after
+//! another: those of MAPs and calendars stand in `us_map_rules`, those of credits in `us_credit_rules`.
 #![tactic(auto)]
 
 // The rules, and where one is broken.

@@ -1,73 +1,19 @@
 -- The bound of a flow's rate holds over all spans of rounds where its bucket has the credits of each round.
-use Rattle.std.proofs.Common.{◌≡◌, ℕ, zero, suc, ◌+◌, ◌-◌, ◌*◌, ◌<◌, ◌≤◌, Bool, true, false, List, [], ◌∷◌, take, drop, refl, sym, ap, subst, ◌∙◌, inl, inr, arith}
-use Rattle.std.specs.Prelude.{sum}
+use Rattle.std.proofs.Common.{◌≡◌, ℕ, zero, suc, ◌+◌, ◌-◌, ◌*◌, ◌/◌, ◌<◌, ◌≤◌, ◌==◌, Bool, true, false, List, min, take, drop, refl, sym, ap, ap₂, subst, ◌∙◌, inl, inr, arith, ne_eqb}
+use Rattle.std.specs.Prelude.{sum, sum_by}
 use Rattle.std.specs.List.{AllByRecursion, list_all, range_with_len}
-use Rattle.std.proofs.lemmas.Bool.{cases_lt, and_from, and_parts, both_ways, false_from_ne_true, le-leb, leb-true}
-use Rattle.std.proofs.lemmas.List.FromFn.{take-map-range_with_len, length-map-range_with_len}
+use Rattle.std.proofs.lemmas.Bool.{cases_lt, false_from_ne_true, le-leb, leb-false, leb-true}
+use Rattle.std.proofs.lemmas.List.FromFn.{take-map-range_with_len}
 use Rattle.us_flows.specs.Tables.{Tables, FlowTable}
-use Rattle.us_bucket.specs.Levels.{Level, full, refilled, spent, units_per_byte}
-use Rattle.us_bucket.specs.Allowances.{Limit, KeepsBound}
-use Rattle.us_bucket.specs.Spans.{credits_from, credits_of, credited}
-use Rattle.us_bucket.specs.Laws.{HasEach, first_level}
-use Rattle.us_bucket.proofs.AllowanceLemmas.{had}
+use Rattle.us_bucket.specs.Levels.{Level, full, refilled, spent, bytes_in, units_per_byte}
+use Rattle.us_bucket.specs.Spans.{credited}
+use Rattle.us_bucket.proofs.LevelLemmas.{refilled-rate, refilled-burst, spent-rate, spent-burst}
 use Rattle.us_lawful.specs.Rates.{span_holds}
+use Rattle.us_lawful.proofs.SameLemmas.{sum_map}
 use Rattle.us_lawful.proofs.TestLemmas.{all_pass, each_passes}
-use Rattle.us_lawful.proofs.BucketLemmas.{events_of, later_events, has_keeps}
 use Rattle.us_credit_rules.specs.Buckets.{has}
-use Rattle.us_credit_rules.proofs.LevelLemmas.{has-is, has-from}
-use Rattle.us_credit_rules.proofs.WalkLemmas.{has_rounds, range_all, rounds_of, rounds_same}
-
--- Rounds as events.
-
--- those of rounds behind another one, and all
-later_told : (first : ℕ) (credits : List ℕ) → credits_from first (later_events credits) ≡ first ∷ credits
-later_told first [] = refl
-later_told first (bytes ∷ credits) =
-    let same : 0 + bytes ≡ bytes = omega arith in
-    ap (λ rest. first ∷ rest) (later_told (0 + bytes) credits ∙ ap (λ n. n ∷ credits) same)
-
-all_told : (bytes : ℕ) (credits : List ℕ) → credits_of (events_of (bytes ∷ credits)) ≡ bytes ∷ credits
-all_told bytes credits =
-    let same : 0 + bytes ≡ bytes = omega arith in
-    later_told (0 + bytes) credits ∙ ap (λ n. n ∷ credits) same
-
--- what a bucket has of them it has of the rounds
-later_has : (ticks : ℕ) (credits : List ℕ) (l : Level) → HasEach ticks (later_events credits) l →
-    has_rounds ticks credits (refilled ticks l) ≡ true
-later_has ticks [] l each = refl
-later_has ticks (bytes ∷ credits) l each =
-    and_from (has (refilled ticks l) bytes) (has_rounds ticks credits (refilled ticks (spent bytes (refilled ticks l))))
-    (has-from (refilled ticks l) bytes each.0) (later_has ticks credits (spent bytes (refilled ticks l)) each.1)
-
-has_later : (ticks : ℕ) (credits : List ℕ) (l : Level) → has_rounds ticks credits (refilled ticks l) ≡ true →
-    HasEach ticks (later_events credits) l
-has_later ticks [] l all = tt
-has_later ticks (bytes ∷ credits) l all =
-    let parts = and_parts (has (refilled ticks l) bytes)
-    (has_rounds ticks credits (refilled ticks (spent bytes (refilled ticks l)))) all in (
-      has-is (refilled ticks l) bytes parts.0,
-      has_later ticks credits (spent bytes (refilled ticks l)) parts.1,
-    )
-
--- so the bound holds just where the bucket has the credits of all rounds
-pub bound_has : (limit : Limit) (credits : List ℕ) → 0 < limit.rate → KeepsBound limit credits →
-    has_rounds limit.round_ticks credits (first_level limit) ≡ true
-bound_has limit [] some keeps = refl
-bound_has limit (bytes ∷ credits) some keeps =
-    let each : HasEach limit.round_ticks (events_of (bytes ∷ credits)) (first_level limit) =
-    had limit (events_of (bytes ∷ credits)) some (subst (KeepsBound limit) (sym (all_told bytes credits)) keeps) in
-    and_from (has (first_level limit) bytes)
-    (has_rounds limit.round_ticks credits (refilled limit.round_ticks (spent bytes (first_level limit))))
-    (has-from (first_level limit) bytes each.0) (later_has limit.round_ticks credits (spent bytes (first_level limit)) each.1)
-
-pub has_bound : (limit : Limit) (credits : List ℕ) → 0 < limit.rate →
-    has_rounds limit.round_ticks credits (first_level limit) ≡ true → KeepsBound limit credits
-has_bound limit [] some all = has_keeps limit [] some tt
-has_bound limit (bytes ∷ credits) some all =
-    let parts = and_parts (has (first_level limit) bytes)
-    (has_rounds limit.round_ticks credits (refilled limit.round_ticks (spent bytes (first_level limit)))) all in
-    has_keeps limit (bytes ∷ credits) some
-    (has-is (first_level limit) bytes parts.0, has_later limit.round_ticks credits (spent bytes (first_level limit)) parts.1)
+use Rattle.us_credit_rules.proofs.LedgerLemmas.{sum_next}
+use Rattle.us_credit_rules.proofs.WalkLemmas.{before, behind_is, has_round, range_all, rounds_of}
 
 -- Spans.
 
@@ -85,24 +31,113 @@ drop_rounds f from (suc n) (suc i) within =
 
 -- what a span credits depends on its rounds alone
 credited_is : (f : ℕ → ℕ) (n i j : ℕ) → i ≤ j → j < n →
-    credited (rounds_of f 0 n) i j ≡ sum (rounds_of f i (j - i + 1))
+    credited (rounds_of f 0 n) i j ≡ sum_by f (range_with_len i (suc (j - i)))
 credited_is f n i j order inside =
     let start : 0 + i ≡ i = omega arith in
+    let count : j - i + 1 ≡ suc (j - i) = omega arith in
     ap (λ rest. sum (take (j - i + 1) rest)) (drop_rounds f 0 n i (omega (arith, order, inside))
     ∙ ap (λ at. rounds_of f at (n - i)) start)
     ∙ ap sum (take-map-range_with_len f i (n - i) (j - i + 1) (omega (arith, order, inside)))
+    ∙ sum_map (λ bytes. bytes) f (range_with_len i (j - i + 1)) ∙ ap (λ m. sum_by f (range_with_len i m)) count
 
-pub credited_same : (f g : ℕ → ℕ) (n m i j : ℕ) → i ≤ j → j < n → j < m → ((k : ℕ) → k ≤ j → f k ≡ g k) →
-    credited (rounds_of f 0 n) i j ≡ credited (rounds_of g 0 m) i j
-credited_same f g n m i j order inside within same =
-    credited_is f n i j order inside
-    ∙ ap sum (rounds_same f g i (j - i + 1) (λ k late early. same k (omega (arith, early, order))))
-    ∙ sym (credited_is g m i j order within)
+-- Units of a bucket with a limit.
+
+enough : (l : Level) (bytes : ℕ) → 0 < l.rate → has l bytes ≡ true → bytes * units_per_byte ≤ l.units
+unfolding bytes_in
+enough l bytes limited had =
+    let some : (l.rate == 0) ≡ false = ne_eqb l.rate 0 (λ none. omega (arith, none, limited)) in
+    let most : bytes ≤ l.units / units_per_byte = leb-true bytes (l.units / units_per_byte) (rw some at had) in
+    omega (arith, most)
+
+scarce : (l : Level) (bytes : ℕ) → 0 < l.rate → has l bytes ≡ false → l.units < bytes * units_per_byte
+unfolding bytes_in
+scarce l bytes limited lacked =
+    let some : (l.rate == 0) ≡ false = ne_eqb l.rate 0 (λ none. omega (arith, none, limited)) in
+    let more : l.units / units_per_byte < bytes = leb-false bytes (l.units / units_per_byte) (rw some at lacked) in
+    omega (arith, more)
+
+grown_units : (ticks bytes : ℕ) (l : Level) → 0 < l.rate →
+    (refilled ticks (spent bytes l)).units
+    ≡ min (l.units - bytes * units_per_byte + ticks * l.rate) (l.burst * units_per_byte)
+unfolding refilled spent
+grown_units ticks bytes l limited =
+    let some : (l.rate == 0) ≡ false = ne_eqb l.rate 0 (λ none. omega (arith, none, limited)) in
+    rw some refl
+
+-- What is in a bucket when a round starts: with the bytes of any span that ends there it is no more than the bound, and with
+-- those of one span it is just that.
+record IsTied (rate burst growth : ℕ) (f : ℕ → ℕ) (round : ℕ) (now : Level) : Type 0 where
+  rate_is : now.rate ≡ rate
+  burst_is : now.burst ≡ burst
+  above : (first n : ℕ) → first + n ≡ round →
+      sum_by f (range_with_len first n) * units_per_byte + now.units ≤ burst * units_per_byte + n * growth
+  least : ℕ
+  count : ℕ
+  there : least + count ≡ round
+  met : sum_by f (range_with_len least count) * units_per_byte + now.units ≡ burst * units_per_byte + count * growth
+
+-- a round more, whose bytes are there
+module _ (rate burst ticks : ℕ) (f : ℕ → ℕ) (round : ℕ) (now : Level) (some : 0 < rate)
+    (tied : IsTied rate burst (ticks * rate) f round now) (had : has now (f round) ≡ true) where
+  abbrev after : Level
+  after = refilled ticks (spent (f round) now)
+
+  abbrev growth : ℕ
+  growth = ticks * rate
+
+  limited : 0 < now.rate
+  limited = omega (arith, some, tied.rate_is)
+
+  fits : f round * units_per_byte ≤ now.units
+  fits = enough now (f round) limited had
+
+  units : after.units ≡ min (now.units - f round * units_per_byte + growth) (burst * units_per_byte)
+  units =
+      grown_units ticks (f round) now limited
+      ∙ ap₂ (λ r b. min (now.units - f round * units_per_byte + ticks * r) (b * units_per_byte)) tied.rate_is tied.burst_is
+
+  next : (n g : ℕ) → suc n * g ≡ n * g + g
+  next n g = omega arith
+
+  over : (first n : ℕ) → first + n ≡ suc round →
+      sum_by f (range_with_len first n) * units_per_byte + after.units ≤ burst * units_per_byte + n * growth
+  over first zero end = omega (arith, units)
+  over first (suc n) end =
+      let at : first + n ≡ round = omega (arith, end) in
+      omega (arith, units, tied.above first n at, sum_next f first n, ap f at, fits, next n growth)
+
+  tied_next : IsTied rate burst growth f (suc round) after
+  tied_next = elim (cases_lt (now.units - f round * units_per_byte + growth) (burst * units_per_byte)) [
+    | inl below ↦ record {
+      rate_is = refilled-rate ticks (spent (f round) now) ∙ spent-rate (f round) now ∙ tied.rate_is;
+      burst_is = refilled-burst ticks (spent (f round) now) ∙ spent-burst (f round) now ∙ tied.burst_is;
+      above = over;
+      least = tied.least;
+      count = suc tied.count;
+      there = omega (arith, tied.there);
+      met = omega (
+        arith,
+        units,
+        below,
+        tied.met,
+        sum_next f tied.least tied.count,
+        ap f tied.there,
+        fits,
+        next tied.count growth,
+      );
+    }
+    | inr cut ↦ record {
+      rate_is = refilled-rate ticks (spent (f round) now) ∙ spent-rate (f round) now ∙ tied.rate_is;
+      burst_is = refilled-burst ticks (spent (f round) now) ∙ spent-burst (f round) now ∙ tied.burst_is;
+      above = over;
+      least = suc round;
+      count = 0;
+      there = omega arith;
+      met = omega (arith, units, cut);
+    }
+  ]
 
 -- Rounds that end spans.
-
-abbrev pub limit_of : Tables → FlowTable → Limit
-limit_of t flow = record { rate = flow.rate; burst = flow.burst; round_ticks = t.round_ticks }
 
 -- of all spans that end in a round
 abbrev pub ends_well : Tables → FlowTable → List ℕ → ℕ → Bool
@@ -138,43 +173,65 @@ ends t flow credits last each =
     (λ first late inside. le-leb (credited credits first last * units_per_byte)
     (flow.burst * units_per_byte + (last - first) * (t.round_ticks * flow.rate)) (each first (omega (arith, inside)))))
 
--- where the bucket has the credits of so many rounds, all spans that end in one of them keep the bound
-module _ (t : Tables) (flow : FlowTable) (f g : ℕ → ℕ) (rounds : ℕ) (some : 0 < flow.rate)
-    (same : (k : ℕ) → k < rounds → f k ≡ g k) where
-  pub had_ends : (n last : ℕ) → last < n → last < rounds →
-      has_rounds t.round_ticks (rounds_of g 0 n) (full flow.rate flow.burst) ≡ true →
-      ends_well t flow (rounds_of f 0 rounds) last ≡ true
-  had_ends n last inside within had =
-      ends t flow (rounds_of f 0 rounds) last (λ first order.
-      subst (λ bytes. bytes * units_per_byte
-      ≤ flow.burst * units_per_byte + (last - first) * (t.round_ticks * flow.rate))
-      (sym (credited_same f g rounds n first last order within inside (λ k early. same k (omega (arith, early, within)))))
-      (has_bound (limit_of t flow) (rounds_of g 0 n) some had first last order
-      (rw (length-map-range_with_len g 0 n) inside)))
+-- where the bucket has the bytes of all rounds up to one, all spans that end there keep the bound
+module _ (t : Tables) (flow : FlowTable) (f : ℕ → ℕ) (some : 0 < flow.rate) where
+  abbrev has_its : ℕ → Bool
+  has_its = has_round t.round_ticks (full flow.rate flow.burst) f
 
-  -- and where it lacks those of a round, some span that ends there doesn't
-  pub lacked_ends : (last : ℕ) → last < rounds →
-      has_rounds t.round_ticks (rounds_of g 0 last) (full flow.rate flow.burst) ≡ true →
-      has_rounds t.round_ticks (rounds_of g 0 (last + 1)) (full flow.rate flow.burst) ≡ false →
+  abbrev level : ℕ → Level
+  level = before t.round_ticks (full flow.rate flow.burst) f
+
+  tied_all : (round : ℕ) → ((k : ℕ) → k < round → has_its k ≡ true) →
+      IsTied flow.rate flow.burst (t.round_ticks * flow.rate) f round (level round)
+  tied_all zero all = record {
+    rate_is = refl;
+    burst_is = refl;
+    above = λ first n end.
+        let none : n ≡ 0 = omega (arith, end) in
+        subst (λ n. sum_by f (range_with_len first n) * units_per_byte + flow.burst * units_per_byte
+        ≤ flow.burst * units_per_byte + n * (t.round_ticks * flow.rate)) (sym none) (omega arith);
+    least = 0;
+    count = 0;
+    there = omega arith;
+    met = omega arith;
+  }
+  tied_all (suc round) all =
+      subst (λ now. IsTied flow.rate flow.burst (t.round_ticks * flow.rate) f (suc round) (refilled t.round_ticks now))
+      (sym (behind_is t.round_ticks (full flow.rate flow.burst) f round))
+      (tied_next flow.rate flow.burst t.round_ticks f round (level round) some
+      (tied_all round (λ k early. all k (omega (arith, early)))) (all round (omega arith)))
+
+  pub had_ends : (rounds last : ℕ) → last < rounds → ((k : ℕ) → k ≤ last → has_its k ≡ true) →
+      ends_well t flow (rounds_of f 0 rounds) last ≡ true
+  had_ends rounds last within all =
+      let tied = tied_all last (λ k early. all k (omega (arith, early))) in
+      ends t flow (rounds_of f 0 rounds) last (λ first order.
+      let at : first + (last - first) ≡ last = omega (arith, order) in
+      omega (
+        arith,
+        credited_is f rounds first last order within,
+        sum_next f first (last - first),
+        ap f at,
+        tied.above first (last - first) at,
+        enough (level last) (f last) (omega (arith, some, tied.rate_is)) (all last (omega arith)),
+      ))
+
+  -- and where it lacks those of a round, one span that ends there doesn't
+  pub lacked_ends : (rounds last : ℕ) → last < rounds → ((k : ℕ) → k < last → has_its k ≡ true) → has_its last ≡ false →
       ends_well t flow (rounds_of f 0 rounds) last ≡ false
-  lacked_ends last within had lacked =
-      false_from_ne_true (ends_well t flow (rounds_of f 0 rounds) last) (λ all.
-      both_ways (has_rounds t.round_ticks (rounds_of g 0 (last + 1)) (full flow.rate flow.burst)) lacked
-      (bound_has (limit_of t flow) (rounds_of g 0 (last + 1)) some (λ i j order inside.
-      let short : j < last + 1 = rw (length-map-range_with_len g 0 (last + 1)) at inside in
-      elim (cases_lt j last) [
-        | inl early ↦
-            subst (λ bytes. bytes * units_per_byte ≤ flow.burst * units_per_byte + (j - i) * (t.round_ticks * flow.rate))
-            (credited_same g g last (last + 1) i j order early short (λ k early. refl))
-            (has_bound (limit_of t flow) (rounds_of g 0 last) some had i j order
-            (rw (length-map-range_with_len g 0 last) early))
-        | inr late ↦
-            let at : j ≡ last = omega (arith, late, short) in
-            subst (λ end. credited (rounds_of g 0 (last + 1)) i end * units_per_byte
-            ≤ flow.burst * units_per_byte + (end - i) * (t.round_ticks * flow.rate)) (sym at)
-            (subst (λ bytes. bytes * units_per_byte
-            ≤ flow.burst * units_per_byte + (last - i) * (t.round_ticks * flow.rate))
-            (credited_same f g rounds (last + 1) i last (omega (arith, order, at)) within (omega arith)
-            (λ k early. same k (omega (arith, early, within))))
-            (ended t flow (rounds_of f 0 rounds) last i (omega (arith, order, at)) all))
-      ])))
+  lacked_ends rounds last within all lacked =
+      let tied = tied_all last all in
+      let order : tied.least ≤ last = omega (arith, tied.there) in
+      let count : last - tied.least ≡ tied.count = omega (arith, tied.there) in
+      false_from_ne_true (ends_well t flow (rounds_of f 0 rounds) last) (λ well.
+      omega (
+        arith,
+        ended t flow (rounds_of f 0 rounds) last tied.least order well,
+        credited_is f rounds tied.least last order within,
+        ap (λ n. sum_by f (range_with_len tied.least (suc n))) count,
+        ap (λ n. n * (t.round_ticks * flow.rate)) count,
+        sum_next f tied.least tied.count,
+        ap f tied.there,
+        tied.met,
+        scarce (level last) (f last) (omega (arith, some, tied.rate_is)) lacked,
+      ))

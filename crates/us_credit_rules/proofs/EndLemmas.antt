@@ -1,7 +1,7 @@
--- Tests that are asked behind the last round, each of an item with an id at the place of that id.
-use Rattle.std.proofs.Common.{◌≡◌, ℕ, ◌==◌, Bool, true, false, List, [], ◌∷◌, Option, sym, ap, ◌∙◌, inl, inr, eq-eqb, ne_eqb}
-use Rattle.std.specs.Prelude.{◌&&◌, if◌then◌else◌}
-use Rattle.std.specs.List.{list_all}
+-- The first of places, and tests that are asked behind the last round, each of an item with an id at the place of that id.
+use Rattle.std.proofs.Common.{◌≡◌, ℕ, ◌==◌, Bool, true, false, List, [], ◌∷◌, Option, None, sym, ap, ◌∙◌, inl, inr, eq-eqb, ne_eqb}
+use Rattle.std.specs.Prelude.{◌&&◌, if◌then◌else◌, fold}
+use Rattle.std.specs.List.{AllByRecursion, list_all}
 use Rattle.std.proofs.lemmas.Bool.{and_cases, and_left, and_parts, and_right, cases_Bool, cases_eq, eqb-true, false≢true}
 use Rattle.us_flows.specs.declared.channels.Channel.{Channel}
 use Rattle.us_reports.specs.declared.place.Place.{Place}
@@ -9,7 +9,40 @@ use Rattle.us_reports.specs.Order.{earlier}
 use Rattle.us_reports.specs.Breaches.{Any, At, Either, IsFirstBreach, IsFirstFailure}
 use Rattle.us_reports.proofs.BreachLemmas.{holds_first, joined, same_places}
 use Rattle.us_reports.proofs.AnyLemmas.{any_each, any_of_all}
-use Rattle.us_credit_rules.specs.Ends.{end_place}
+use Rattle.us_credit_rules.specs.Ends.{end_place, first_of}
+
+-- The first of places.
+
+module _ {X : Type 0} (channels : List Channel) (F : X → Place → Type 0) (place : X → Option Place) where
+  -- behind what else fails
+  first_behind : (B : Place → Type 0) (best : Option Place) (xs : List X) → IsFirstFailure channels B best →
+      AllByRecursion (λ x. IsFirstFailure channels (F x) (place x)) xs →
+      IsFirstFailure channels (Either B (Any F xs)) (fold (λ first x. earlier channels first (place x)) best xs)
+  first_behind B best [] first all =
+      same_places channels B (Either B (Any F [])) best (λ p fails. inl fails)
+      (λ p fails. elim fails [ inl here ↦ here | inr none ↦ absurd none ]) first
+  first_behind B best (x ∷ xs) first all =
+      same_places channels (Either (Either B (F x)) (Any F xs)) (Either B (Any F (x ∷ xs)))
+      (fold (λ first x. earlier channels first (place x)) (earlier channels best (place x)) xs)
+      (λ p fails. elim fails [
+        | inl front ↦ elim front [ inl other ↦ inl other | inr here ↦ inr (inl here) ]
+        | inr there ↦ inr (inr there)
+      ])
+      (λ p fails. elim fails [
+        | inl other ↦ inl (inl other)
+        | inr rest ↦ elim rest [ inl here ↦ inl (inr here) | inr there ↦ inr there ]
+      ])
+      (first_behind (Either B (F x)) (earlier channels best (place x)) xs
+      (joined channels B (F x) best (place x) first all.0) all.1)
+
+  pub first_among : (xs : List X) → AllByRecursion (λ x. IsFirstFailure channels (F x) (place x)) xs →
+      IsFirstFailure channels (Any F xs) (first_of channels place xs)
+  first_among xs all =
+      same_places channels (Either (Any F []) (Any F xs)) (Any F xs) (first_of channels place xs)
+      (λ p fails. elim fails [ inl none ↦ absurd none | inr there ↦ there ]) (λ p there. inr there)
+      (first_behind (Any F []) None xs (λ p fails. fails) all)
+
+-- Tests behind the last round.
 
 module _ {X : Type 0} (id : X → ℕ) (holds : X → Bool) (rounds : ℕ) where
   -- an item fails at its place

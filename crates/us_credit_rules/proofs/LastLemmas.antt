@@ -1,20 +1,18 @@
 -- F lines, A lines and U lines are judged by what they tell.
-use Rattle.std.proofs.Common.{◌≡◌, ℕ, ◌-◌, ◌<◌, ◌==◌, Bool, true, false, List, length, get_or, Option, Some, refl, sym, ap, ap₂, ◌∙◌, inl, inr, arith, eq-eqb, ne_eqb, zero, suc, [], ◌∷◌, None}
-use Rattle.std.specs.Prelude.{◌&&◌, nat_eq, slice_get, if◌then◌else◌, sum_by}
+use Rattle.std.proofs.Common.{◌≡◌, ℕ, ◌-◌, ◌<◌, ◌==◌, Bool, true, false, List, length, map, get_or, Option, Some, refl, sym, subst, ap, ap₂, ◌∙◌, inl, inr, arith, eq-eqb, ne_eqb, zero, suc, [], ◌∷◌, None}
+use Rattle.std.specs.Prelude.{◌&&◌, nat_eq, if◌then◌else◌, slice_index, sum_by}
 use Rattle.std.specs.List.{list_all, list_any, AllByRecursion}
 use Rattle.std.specs.Option.{is_some, option_eq}
 use Rattle.std.proofs.lemmas.Bool.{cases_eq, false≢true, and_parts, cases_Bool, eqb-true}
 use Rattle.std.proofs.lemmas.List.Elements.{filter_agree}
 use Rattle.us_flows.specs.Tables.{Tables, FlowTable}
-use Rattle.us_flows.specs.Clusters.{Turn, IsTurnIn, table_order, words_of}
+use Rattle.us_flows.specs.Clusters.{Turn, table_order, words_of}
 use Rattle.us_flows.specs.Lawful.{AreTables}
-use Rattle.us_flows.proofs.TurnLaws.{table_order-turns}
 use Rattle.us_requests.specs.Traces.{IsTrace, TraceAsks}
 use Rattle.us_output.specs.declared.rows.FinalState.{FinalState}
-use Rattle.us_output.specs.declared.rows.Row.{Row}
-use Rattle.us_output.proofs.PartLemmas.{all_found}
+use Rattle.us_output.proofs.PartLemmas.{all_both, all_weaker}
 use Rattle.us_reports.specs.declared.place.Place.{Place}
-use Rattle.us_lawful.specs.Runs.{Judged, as_final, finals_in, run_in, activities_in, as_activity, as_counts, counts_in, counts_told}
+use Rattle.us_lawful.specs.Runs.{Judged, as_final, finals_in, requested_in, run_in, activities_in, as_activity, as_counts, counts_in, counts_told}
 use Rattle.us_lawful.specs.Finals.{final_holds, final_of, finals_hold, is_final_of, is_same_final, activities_hold, activity_holds, activity_of, is_same_activity, talking, counts_hold, is_same_counts}
 use Rattle.us_lawful.proofs.SameLemmas.{Same, same_all, same_any, same_count, same_filter_map, same_moved}
 use Rattle.us_reports.specs.Order.{earlier}
@@ -25,21 +23,27 @@ use Rattle.us_credit_rules.specs.declared.credit_lines.CreditLines.{CreditLines}
 use Rattle.us_credit_rules.specs.declared.ledgers.Account.{Account}
 use Rattle.us_credit_rules.specs.declared.told.Told.TheVariants.{Nothing}
 use Rattle.us_credit_rules.specs.CreditLines.{AreCreditLines}
-use Rattle.us_credit_rules.specs.Ends.{end_place, unless}
-use Rattle.us_credit_rules.specs.LastLines.{IsWrong, is_right, tells}
+use Rattle.us_credit_rules.specs.Ends.{end_place, first_of, unless}
+use Rattle.us_credit_rules.specs.LastLines.{final_place, is_right, tells}
 use Rattle.us_credit_rules.specs.Ledgers.{AreAsked, account_at}
-use Rattle.us_credit_rules.specs.Seats.{is_number, names, place_of}
+use Rattle.us_credit_rules.specs.Seats.{is_number, names, word_of}
 use Rattle.us_credit_rules.specs.Tellings.{is_once, told_by}
-use Rattle.us_credit_rules.proofs.EndLemmas.{EndFails, ends_first}
-use Rattle.us_credit_rules.proofs.KeptLemmas.{cluster_left, flow_account}
-use Rattle.us_credit_rules.proofs.SeatLemmas.{any_number, are_named, named_place, placed_inside}
+use Rattle.us_credit_rules.proofs.EndLemmas.{EndFails, ends_first, first_among}
+use Rattle.us_credit_rules.proofs.KeptLemmas.{IsCreditedTurn, credited_turns, flow_account, requests_moved}
+use Rattle.us_credit_rules.proofs.LedgerLemmas.{left_is}
+use Rattle.us_credit_rules.proofs.SeatLemmas.{any_word, named_word}
 use Rattle.us_credit_rules.proofs.TellingLemmas.{once_told, one_told}
 use Rattle.std.proofs.lemmas.List.Folds.{list_all-map}
 use Rattle.us_calendar.specs.Entries.{WordedFlow}
 use Rattle.us_output.specs.declared.rows.FinalActivity.{FinalActivity}
 use Rattle.us_lawful.proofs.CreditLineLaws.{all_placed}
 use Rattle.us_lawful.proofs.ItemLemmas.{any_placed, of_each}
-use Rattle.us_credit_rules.specs.Activities.{IsUntold, talker_at, wanted}
+use Rattle.us_activity.specs.Activities.{AreMarksOf}
+use Rattle.us_activity.specs.Marks.{Marks}
+use Rattle.us_credit_rules.specs.declared.talkers.Talker.{Talker}
+use Rattle.us_credit_rules.specs.declared.told.Told.{Told}
+use Rattle.us_credit_rules.specs.Activities.{line_of, talker_at, talker_of, talker_place}
+use Rattle.us_credit_rules.proofs.TalkerLemmas.{lines_are}
 use Rattle.std.proofs.lemmas.List.Sums.{sum_by-cons}
 use Rattle.us_flows.specs.declared.channels.Channel.{Channel}
 use Rattle.us_output.specs.declared.rows.TraceCounts.{TraceCounts}
@@ -69,66 +73,74 @@ same_parts right f turn flow list =
     grouped true false c d = refl
     grouped false b c d = refl
 
-module _ (t : Tables) (v : TraceAsks) (lines : List Row) (kept : CreditLines) (lawful : AreTables t)
-    (are : AreCreditLines t v lines kept) where
-  finals_moved : Same (finals_in lines) (finals_in are.0)
-  finals_moved = same_filter_map as_final lines are.0 (same_moved lines are.0 are.1)
+module _ (t : Tables) (v : TraceAsks) (judged : Judged) (kept : CreditLines) (lawful : AreTables t) (trace : IsTrace v)
+    (are : AreCreditLines t v judged.lines kept) (all : List ℕ) (asked : AreAsked v v.rounds all)
+    (long : length all ≡ length (words_of t)) where
+  finals_moved : Same (finals_in judged.lines) (finals_in are.0)
+  finals_moved = same_filter_map as_final judged.lines are.0 (same_moved judged.lines are.0 are.1)
+
+  abbrev own : Turn → Bool
+  own turn = final_holds (run_in t v) judged.lines turn
+
+  abbrev told : List (Told FinalState)
+  told = kept.finals.told.items
 
   -- a cluster has its own where just one line names it, and tells what is left
-  pub final_right : (all : List Account) (place : ℕ) (turn : Turn) → IsTrace v →
-      slice_get (table_order t) place ≡ Some turn → AreAsked v v.rounds all → length all ≡ length (words_of t) →
-      final_holds (run_in t v) lines turn
-      ≡ is_right v.rounds t.round_ticks kept.seats all kept.requests (get_or kept.finals.told.items place Nothing) turn
-  final_right all place turn trace listed asked long =
+  final_right : (turn : Turn) → IsCreditedTurn t v are.0 kept turn →
+      own turn ≡ is_right v.rounds t.round_ticks all kept.requests (get_or told turn.number Nothing) turn
+  final_right turn is =
       let finals : List FinalState = finals_in are.0 in
-      let right : FinalState = final_of (run_in t v) lines turn in
+      let right : FinalState = final_of (run_in t v) judged.lines turn in
       let flow : FlowTable = turn.cluster.flow in
-      let known : IsTurnIn t turn = all_found (IsTurnIn t) (table_order t) place turn (table_order-turns t) listed in
-      let word : turn.number < length all =
-      omega (arith, long, all_found (λ (turn : Turn). turn.number < length (words_of t)) (table_order t) place turn (are_named t lawful).inside listed) in
-      let left : (account_at all turn.number).asked - (account_at kept.requests.ledger.accounts.items turn.number).credited
-      ≡ right.outstanding =
-      ap (λ n. n - (account_at kept.requests.ledger.accounts.items turn.number).credited) (asked.asked turn.number word)
-      ∙ cluster_left t v lines kept place turn lawful listed are trace in
-      let bucket = (flow_account t v lines kept turn.place flow lawful known.flow known.requests are).left in
+      let account : Account = account_at kept.requests.ledger.accounts.items turn.number in
+      let left : slice_index all turn.number - account.credited ≡ right.outstanding =
+      ap (λ n. n - account.credited) (asked.asked turn.number (omega (arith, long, is.0.number)))
+      ∙ left_is t v judged.lines (requested_in are.0) turn account is.0.number
+      (requests_moved judged.lines are.0 (same_moved judged.lines are.0 are.1)) is.1 trace in
+      let bucket = (flow_account t v judged.lines kept turn.place flow lawful is.0.flow is.0.requests are).left in
       ap₂ (λ n b. (n == 1) && b)
-      (same_count (is_final_of turn) (finals_in lines) finals finals_moved)
-      (same_any (is_same_final right) (finals_in lines) finals finals_moved)
+      (same_count (is_final_of turn) (finals_in judged.lines) finals finals_moved)
+      (same_any (is_same_final right) (finals_in judged.lines) finals finals_moved)
       ∙ once_told (tells right.outstanding right.units) (is_same_final right) (is_final_of turn)
       (λ f. same_parts right f turn refl refl) finals
       ∙ ap (λ own. is_once (tells right.outstanding right.units) (told_by own))
-      (filter_agree (is_final_of turn) (λ (f : FinalState). is_number place (place_of f.flow f.cluster (table_order t)))
-      (λ f. named_place t turn place f.flow f.cluster lawful listed) finals)
-      ∙ ap (is_once (tells right.outstanding right.units))
-      (sym (are.2.finals.told place (placed_inside (table_order t) place turn listed)))
-      ∙ ap₂ (λ n u. is_once (tells n u) (get_or kept.finals.told.items place Nothing)) (sym left) (sym bucket)
+      (filter_agree (is_final_of turn) (λ (f : FinalState). is_number turn.number (word_of f.flow f.cluster (table_order t)))
+      (λ f. named_word t turn f.flow f.cluster lawful is.0) finals)
+      ∙ ap (is_once (tells right.outstanding right.units)) (sym (are.2.finals.told turn.number is.0.number))
+      ∙ ap₂ (λ n u. is_once (tells n u) (get_or told turn.number Nothing)) (sym left) (sym bucket)
 
-  -- and the earlier of both is the first
-  pub finals_first : (judged : Judged) (wrong : Option Place) → judged.lines ≡ lines →
-      IsFirstFailure t.channels (Any (IsWrong (run_in t v) lines) (table_order t)) wrong →
-      IsFirstBreach t.channels (λ p. finals_hold (run_in t v) judged p ≡ true)
-      (earlier t.channels kept.finals.strange wrong)
-  finals_first judged wrong is second =
+  -- so this is the first place, of these and of lines that name no cluster
+  pub finals_first : IsFirstBreach t.channels (λ p. finals_hold (run_in t v) judged p ≡ true)
+      (earlier t.channels kept.finals.strange
+      (first_of t.channels (final_place v.rounds t.round_ticks all kept.requests told) kept.seats))
+  finals_first =
       let turns : List Turn = table_order t in
+      let place : Turn → Option Place = final_place v.rounds t.round_ticks all kept.requests told in
       let known : FinalState → Bool = λ f. list_any (λ turn. is_final_of turn f) turns in
-      let named : (f : FinalState) → known f ≡ is_some (place_of f.flow f.cluster turns) =
-      (λ f. any_number (names f.flow f.cluster) 0 turns) in
+      let named : (f : FinalState) → known f ≡ is_some (word_of f.flow f.cluster turns) =
+      (λ f. any_word (names f.flow f.cluster) turns) in
       let Strange : FinalState → Place → Type 0 =
-      λ f. At (end_place v.rounds f.flow) (is_some (place_of f.flow f.cluster turns)) in
+      λ f. At (end_place v.rounds f.flow) (is_some (word_of f.flow f.cluster turns)) in
       let Unknown : FinalState → Place → Type 0 = EndFails (λ (f : FinalState). f.flow) known v.rounds in
-      ends_first (λ (f : FinalState). f.flow) known (λ (turn : Turn). turn.cluster.flow.id)
-      (final_holds (run_in t v) lines) v.rounds (finals_in are.0) turns (finals_hold (run_in t v) judged)
+      let Wrong : Turn → Place → Type 0 = EndFails (λ (turn : Turn). turn.cluster.flow.id) own v.rounds in
+      ends_first (λ (f : FinalState). f.flow) known (λ (turn : Turn). turn.cluster.flow.id) own v.rounds (finals_in are.0) turns
+      (finals_hold (run_in t v) judged)
       (λ p. ap (λ b. if (p.round == v.rounds) && (p.channel == 0) then b
-      && list_all (λ turn. if turn.cluster.flow.id == p.third then final_holds (run_in t v) lines turn else true) turns
+      && list_all (λ turn. if turn.cluster.flow.id == p.third then own turn else true) turns
       else true)
-      (sym (same_all (λ (f : FinalState). if f.flow == p.third then known f else true) (finals_in lines) (finals_in are.0)
-      finals_moved))
-      ∙ ap (λ these. finals_hold (run_in t v) (record { maps = judged.maps; lines = these }) p) (sym is))
-      t.channels kept.finals.strange wrong
+      (sym (same_all (λ (f : FinalState). if f.flow == p.third then known f else true) (finals_in judged.lines) (finals_in are.0)
+      finals_moved)))
+      t.channels kept.finals.strange (first_of t.channels place kept.seats)
       (same_places t.channels (Any Strange (finals_in are.0)) (Any Unknown (finals_in are.0)) kept.finals.strange
       (λ p fails. any_each Strange Unknown (finals_in are.0) p (λ f out. (out.0, named f ∙ out.1)) fails)
       (λ p fails. any_each Unknown Strange (finals_in are.0) p (λ f out. (out.0, sym (named f) ∙ out.1)) fails)
-      are.2.finals.strange) second
+      are.2.finals.strange)
+      (subst (λ seats. IsFirstFailure t.channels (Any Wrong turns) (first_of t.channels place seats)) (sym are.2.seats)
+      (first_among t.channels Wrong place turns
+      (all_weaker (IsCreditedTurn t v are.0 kept) (λ turn. IsFirstFailure t.channels (Wrong turn) (place turn))
+      (λ turn is. subst (λ right. IsFirstFailure t.channels (Wrong turn) (unless right (end_place v.rounds turn.cluster.flow.id)))
+      (final_right turn is) (at_test t.channels (end_place v.rounds turn.cluster.flow.id) (own turn)))
+      turns (credited_turns t v are.0 kept are.2))))
 
 -- A lines.
 
@@ -143,18 +155,20 @@ code_inside [] code is = absurd (false≢true is)
 code_inside (place ∷ places) zero is = omega arith
 code_inside (place ∷ places) (suc code) is = omega (arith, code_inside places code is)
 
-module _ (t : Tables) (v : TraceAsks) (lines : List Row) (kept : CreditLines) (are : AreCreditLines t v lines kept) where
-  abbrev told : List FinalActivity
-  told = activities_in are.0
+module _ (t : Tables) (v : TraceAsks) (judged : Judged) (kept : CreditLines) (are : AreCreditLines t v judged.lines kept)
+    (marks : Marks) (marked : AreMarksOf t v marks) where
+  abbrev lines : List FinalActivity
+  lines = activities_in are.0
 
-  moved : Same (activities_in lines) told
-  moved = same_filter_map as_activity lines are.0 (same_moved lines are.0 are.1)
+  moved : Same (activities_in judged.lines) lines
+  moved = same_filter_map as_activity judged.lines are.0 (same_moved judged.lines are.0 are.1)
 
   abbrev talks : ℕ → Bool
   talks id = list_any (λ f. f.flow.id == id) (talking t)
 
-  abbrev once : FinalActivity → Bool
-  once a = is_once (is_same_activity a) (get_or kept.talkers.told.told.items a.flow Nothing)
+  abbrev once : Talker → Bool
+  once talker =
+      is_once (is_same_activity (line_of marks v.rounds talker)) (get_or kept.talkers.told.told.items talker.id Nothing)
 
   known : (a : FinalActivity) (id : ℕ) → (if a.flow == id then is_some (talker_at t a.flow) else true)
       ≡ (if a.flow == id then talks id else true)
@@ -168,22 +182,23 @@ module _ (t : Tables) (v : TraceAsks) (lines : List Row) (kept : CreditLines) (a
       found false = refl
 
   -- a flow has its own where just that is told
-  own : (f : WordedFlow) → talks f.flow.id ≡ true →
-      once (activity_of (run_in t v) f) ≡ activity_holds (run_in t v) lines f
-  own f talker =
+  own_line : (f : WordedFlow) → talks f.flow.id ≡ true → line_of marks v.rounds (talker_of f) ≡ activity_of (run_in t v) f →
+      once (talker_of f) ≡ activity_holds (run_in t v) judged.lines f
+  own_line f talker line =
       let id : ℕ = f.flow.id in
       let wanted : FinalActivity = activity_of (run_in t v) f in
       let inside : id < length kept.talkers.ids.items =
       code_inside kept.talkers.ids.items id (are.2.talkers.ids id ∙ talker) in
-      ap (is_once (is_same_activity wanted)) (are.2.talkers.told.told id inside)
+      ap (λ these. is_once (is_same_activity these) (get_or kept.talkers.told.told.items id Nothing)) line
+      ∙ ap (is_once (is_same_activity wanted)) (are.2.talkers.told.told id inside)
       ∙ ap (λ these. is_once (is_same_activity wanted) (told_by these))
-      (sym (filter_agree (λ (a : FinalActivity). a.flow == id) (λ a. is_number id (talker_at t a.flow)) named told))
+      (sym (filter_agree (λ (a : FinalActivity). a.flow == id) (λ a. is_number id (talker_at t a.flow)) named lines))
       ∙ sym (once_told (is_same_activity wanted) (is_same_activity wanted) (λ (a : FinalActivity). a.flow == id)
       (λ a. ap (λ b. b && (wanted.active == a.active)) (turned id a.flow) ∙ twice (a.flow == id) (wanted.active == a.active)
-      ∙ ap (λ b. (a.flow == id) && (b && (wanted.active == a.active))) (turned a.flow id)) told)
+      ∙ ap (λ b. (a.flow == id) && (b && (wanted.active == a.active))) (turned a.flow id)) lines)
       ∙ ap₂ (λ n b. (n == 1) && b)
-      (sym (same_count (λ (a : FinalActivity). a.flow == id) (activities_in lines) told moved))
-      (sym (same_any (is_same_activity wanted) (activities_in lines) told moved))
+      (sym (same_count (λ (a : FinalActivity). a.flow == id) (activities_in judged.lines) lines moved))
+      (sym (same_any (is_same_activity wanted) (activities_in judged.lines) lines moved))
     where
       twice : (a b : Bool) → (a && b) ≡ (a && (a && b))
       twice true b = refl
@@ -201,36 +216,45 @@ module _ (t : Tables) (v : TraceAsks) (lines : List Row) (kept : CreditLines) (a
       ]
 
   own_there : (id : ℕ) →
-      list_all (λ a. if a.flow == id then once a else true) (wanted (run_in t v))
-      ≡ list_all (λ f. if f.flow.id == id then activity_holds (run_in t v) lines f else true) (talking t)
+      list_all (λ talker. if talker.id == id then once talker else true) (map talker_of (talking t))
+      ≡ list_all (λ f. if f.flow.id == id then activity_holds (run_in t v) judged.lines f else true) (talking t)
   own_there id =
-      list_all-map (λ (a : FinalActivity). if a.flow == id then once a else true) (activity_of (run_in t v)) (talking t)
-      ∙ all_agree (λ f. if f.flow.id == id then once (activity_of (run_in t v) f) else true)
-      (λ f. if f.flow.id == id then activity_holds (run_in t v) lines f else true) (talking t)
-      (all_placed (λ f. (if f.flow.id == id then once (activity_of (run_in t v) f) else true)
-      ≡ (if f.flow.id == id then activity_holds (run_in t v) lines f else true)) (talking t)
-      (λ place f at. ap (λ b. if f.flow.id == id then b else true)
-      (own f (any_placed (λ g. g.flow.id == f.flow.id) (talking t) place f at (eq-eqb f.flow.id f.flow.id refl)))))
+      let Talks : WordedFlow → Type 0 = λ f. talks f.flow.id ≡ true in
+      let Tells : WordedFlow → Type 0 = λ f. line_of marks v.rounds (talker_of f) ≡ activity_of (run_in t v) f in
+      list_all-map (λ (talker : Talker). if talker.id == id then once talker else true) talker_of (talking t)
+      ∙ all_agree (λ f. if f.flow.id == id then once (talker_of f) else true)
+      (λ f. if f.flow.id == id then activity_holds (run_in t v) judged.lines f else true) (talking t)
+      (all_weaker (λ f. Talks f × Tells f) (λ f. (if f.flow.id == id then once (talker_of f) else true)
+      ≡ (if f.flow.id == id then activity_holds (run_in t v) judged.lines f else true))
+      (λ f both. ap (λ b. if f.flow.id == id then b else true) (own_line f both.0 both.1)) (talking t)
+      (all_both Talks Tells (talking t) (all_placed Talks (talking t) (λ place f at.
+      any_placed (λ g. g.flow.id == f.flow.id) (talking t) place f at (eq-eqb f.flow.id f.flow.id refl)))
+      (lines_are t v marks marked)))
 
-  -- and the earlier of both is the first
-  pub activities_first : (judged : Judged) (untold : Option Place) → judged.lines ≡ lines →
-      IsFirstFailure t.channels (Any (IsUntold v.rounds kept.talkers.told.told.items) (wanted (run_in t v))) untold →
-      IsFirstBreach t.channels (λ p. activities_hold (run_in t v) judged p ≡ true)
-      (earlier t.channels kept.talkers.told.strange untold)
-  activities_first judged untold is second =
-      let strange : (id : ℕ) → list_all (λ a. if a.flow == id then is_some (talker_at t a.flow) else true) told
-      ≡ list_all (λ a. if a.flow == id then talks id else true) (activities_in lines) =
+  -- so this is the first place, of these and of lines of other flows
+  pub activities_first : IsFirstBreach t.channels (λ p. activities_hold (run_in t v) judged p ≡ true)
+      (earlier t.channels kept.talkers.told.strange
+      (first_of t.channels (talker_place marks v.rounds kept.talkers.told.told.items) kept.talkers.all.items))
+  activities_first =
+      let all : List Talker = map talker_of (talking t) in
+      let place : Talker → Option Place = talker_place marks v.rounds kept.talkers.told.told.items in
+      let Wrong : Talker → Place → Type 0 = EndFails (λ (talker : Talker). talker.id) once v.rounds in
+      let strange : (id : ℕ) → list_all (λ a. if a.flow == id then is_some (talker_at t a.flow) else true) lines
+      ≡ list_all (λ a. if a.flow == id then talks id else true) (activities_in judged.lines) =
       (λ id. all_agree (λ (a : FinalActivity). if a.flow == id then is_some (talker_at t a.flow) else true)
-      (λ a. if a.flow == id then talks id else true) told
+      (λ a. if a.flow == id then talks id else true) lines
       (of_each (λ (a : FinalActivity). (if a.flow == id then is_some (talker_at t a.flow) else true) ≡ (if a.flow == id then talks id else true))
-      told (λ a. known a id))
-      ∙ sym (same_all (λ (a : FinalActivity). if a.flow == id then talks id else true) (activities_in lines) told moved)) in
-      ends_first (λ (a : FinalActivity). a.flow) (λ a. is_some (talker_at t a.flow)) (λ (a : FinalActivity). a.flow) once
-      v.rounds told (wanted (run_in t v)) (activities_hold (run_in t v) judged)
+      lines (λ a. known a id))
+      ∙ sym (same_all (λ (a : FinalActivity). if a.flow == id then talks id else true) (activities_in judged.lines) lines moved)) in
+      ends_first (λ (a : FinalActivity). a.flow) (λ a. is_some (talker_at t a.flow)) (λ (talker : Talker). talker.id) once
+      v.rounds lines all (activities_hold (run_in t v) judged)
       (λ p. ap (λ b. if (p.round == v.rounds) && (p.channel == 0) then b else true)
-      (ap₂ (λ a b. a && b) (strange p.third) (own_there p.third))
-      ∙ ap (λ these. activities_hold (run_in t v) (record { maps = judged.maps; lines = these }) p) (sym is))
-      t.channels kept.talkers.told.strange untold are.2.talkers.told.strange second
+      (ap₂ (λ a b. a && b) (strange p.third) (own_there p.third)))
+      t.channels kept.talkers.told.strange (first_of t.channels place kept.talkers.all.items) are.2.talkers.told.strange
+      (subst (λ talkers. IsFirstFailure t.channels (Any Wrong all) (first_of t.channels place talkers)) (sym are.2.talkers.all)
+      (first_among t.channels Wrong place all
+      (of_each (λ talker. IsFirstFailure t.channels (Wrong talker) (place talker)) all
+      (λ talker. at_test t.channels (end_place v.rounds talker.id) (once talker)))))
 
 -- U lines.
 

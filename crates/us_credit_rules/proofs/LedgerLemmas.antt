@@ -1,11 +1,10 @@
 -- The ledger: a round more, a line more, and what it comes to.
-use Rattle.std.proofs.Common.{◌≡◌, ℕ, zero, suc, ◌+◌, ◌-◌, ◌<◌, ◌≤◌, ◌==◌, Bool, true, false, List, [], ◌∷◌, ◌++◌, length, get_or, replicate, take, drop, cond, Option, Some, None, refl, sym, ap, ap₂, ◌∙◌, inl, inr, arith, eq-eqb, ne_eqb, subst}
+use Rattle.std.proofs.Common.{◌≡◌, ℕ, zero, suc, ◌+◌, ◌-◌, ◌<◌, ◌≤◌, ◌==◌, Bool, true, false, List, [], ◌∷◌, ◌++◌, length, get_or, replicate, drop, cond, Option, Some, None, refl, sym, ap, ap₂, ◌∙◌, inl, inr, arith, eq-eqb, ne_eqb, subst}
 use Rattle.std.specs.Prelude.{◌&&◌, if◌then◌else◌, not, nat_lt, nat_le, filter, find, slice_index, sum_by}
 use Rattle.std.specs.List.{AllByRecursion, range_with_len}
 use Rattle.std.proofs.lemmas.Bool.{cases_eq, cases_lt, and_from, and_left, and_right, eqb-true, false≢true, le-leb, le-ltb, lt-ltb, ltb-true}
 use Rattle.std.proofs.lemmas.Bool.Decides.{nat_tests}
-use Rattle.std.proofs.lemmas.List.{get_or-replicate, length-replicate, take-append-drop}
-use Rattle.std.proofs.lemmas.List.Elements.{filter_more}
+use Rattle.std.proofs.lemmas.List.{drop_more, get_or-replicate, length-replicate}
 use Rattle.std.proofs.lemmas.List.FromFn.{get_or-map-range_with_len, take-map-range_with_len}
 use Rattle.std.proofs.lemmas.List.Sums.{sum_by-cons}
 use Rattle.us_flows.specs.Tables.{Tables}
@@ -23,14 +22,14 @@ use Rattle.us_lawful.proofs.SameLemmas.{Same, same_filter, sum_append, sum_filte
 use Rattle.us_lawful.proofs.SumLemmas.{sum_both}
 use Rattle.us_credit_rules.specs.declared.ledgers.Account.{Account}
 use Rattle.us_credit_rules.specs.Shorts.{IsFirstRound, short_then}
-use Rattle.us_credit_rules.specs.Seats.{AreNamed, has_word, names}
+use Rattle.us_credit_rules.specs.Seats.{AreNamed, is_number, names, word_in, word_of}
 use Rattle.us_credit_rules.specs.declared.ledgers.Ledger.{Ledger}
-use Rattle.us_credit_rules.specs.Ledgers.{AreAsked, AreCredited, IsCredited, TakesCredit, TakesLine, account_at, asked_in, brought, credit_in, credit_within, holds, nothing, with_asked}
+use Rattle.us_credit_rules.specs.Ledgers.{AreAsked, AreCredited, IsCredited, TakesCredit, TakesLine, account_at, asked_in, credit_in, credit_within, holds, nothing}
 use Rattle.us_credit_rules.proofs.CreditLemmas.{sum_pointwise}
 
 -- What is asked for.
 
-sum_next : (f : ℕ → ℕ) (from n : ℕ) →
+pub sum_next : (f : ℕ → ℕ) (from n : ℕ) →
     sum_by f (range_with_len from (suc n)) ≡ sum_by f (range_with_len from n) + f (from + n)
 sum_next f from zero =
     let same : from + 0 ≡ from = omega arith in
@@ -77,101 +76,67 @@ asked_few v rounds word is =
           (range_with_len 0 rounds) (λ round. asked_most (asks_in v round) word),
     )
 
--- by one ask more
-pub asked_more : (asks : List Ask) (i word : ℕ) (d : Ask) → i < length asks →
-    asked (take (i + 1) asks) word
-    ≡ asked (take i asks) word + cond ((get_or asks i d).cluster == word) (get_or asks i d).bytes 0
-asked_more asks i word d inside =
-    let ask : Ask = get_or asks i d in
-    let own : List Ask → List Ask = filter (λ ask. ask.cluster == word) in
-    ap (sum_by (λ (ask : Ask). ask.bytes)) (filter_more (λ (ask : Ask). ask.cluster == word) asks i d inside)
-    ∙ sum_append (λ (ask : Ask). ask.bytes) (own (take i asks)) (cond (ask.cluster == word) (ask ∷ []) [])
-    ∙ ap (λ n. asked (take i asks) word + n) (one (ask.cluster == word) ask)
-  where
-    one : (b : Bool) (ask : Ask) → sum_by (λ (ask : Ask). ask.bytes) (cond b (ask ∷ []) []) ≡ cond b ask.bytes 0
-    one true ask = omega (arith, sum_by-cons (λ (ask : Ask). ask.bytes) ask [])
-    one false ask = refl
-
--- the first asks of a round are for no more than all of them
-asked_front : (asks : List Ask) (n word : ℕ) → asked (take n asks) word ≤ asked asks word
-asked_front asks n word =
+-- by the asks from one on
+asked_from : (asks : List Ask) (i word : ℕ) (d : Ask) → i < length asks →
+    asked (drop i asks) word
+    ≡ cond ((get_or asks i d).cluster == word) (get_or asks i d).bytes 0 + asked (drop (i + 1) asks) word
+asked_from asks i word d inside =
     let own : Ask → ℕ = λ ask. cond (ask.cluster == word) ask.bytes 0 in
+    let rest : List Ask = drop (i + 1) asks in
     omega (
       arith,
-      sum_filter (λ (ask : Ask). ask.bytes) (λ ask. ask.cluster == word) asks,
-      sum_filter (λ (ask : Ask). ask.bytes) (λ ask. ask.cluster == word) (take n asks),
-      sum_append own (take n asks) (drop n asks),
-      ap (sum_by own) (take-append-drop n asks),
+      sum_filter (λ (ask : Ask). ask.bytes) (λ ask. ask.cluster == word) (drop i asks),
+      ap (sum_by own) (drop_more asks i d inside),
+      sum_by-cons own (get_or asks i d) rest,
+      sum_filter (λ (ask : Ask). ask.bytes) (λ ask. ask.cluster == word) rest,
     )
 
--- Accounts, with what some asks are for.
+-- Sums of words, to which some asks are still to come.
 
-abbrev pub AskedMore : List Account → List Ask → List Account → Type 0
-AskedMore before asks now =
-    (word : ℕ) → word < length before → account_at now word ≡ with_asked (asked asks word) (account_at before word)
+abbrev pub AskedWith : List ℕ → List Ask → List ℕ → List Ask → Type 0
+AskedWith before asks now rest =
+    (word : ℕ) → word < length before →
+    slice_index now word + asked rest word ≡ slice_index before word + asked asks word
 
-same_asked : (a : Account) (m n : ℕ) → m ≡ n →
-    ◌≡◌ {A = Account} (record { asked = m; credited = a.credited; short = a.short }) (record { asked = n; credited = a.credited; short = a.short })
-same_asked a m n same = ap (λ asked. record { asked = asked; credited = a.credited; short = a.short }) same
-
-pub none_asked : (before : List Account) → AskedMore before [] before
-none_asked before word inside =
-    let a : Account = account_at before word in
-    same_asked a a.asked (a.asked + 0) (omega arith)
-
-pub one_asked : (before now after : List Account) (asks : List Ask) (i : ℕ) (d : Ask) → i < length asks →
-    length now ≡ length before → AskedMore before (take i asks) now →
-    ((word : ℕ) → word < length now → account_at after word
-    ≡ with_asked (if (get_or asks i d).cluster == word then (get_or asks i d).bytes else 0) (account_at now word)) →
-    AskedMore before (take (i + 1) asks) after
+pub one_asked : (before now after : List ℕ) (asks : List Ask) (i : ℕ) (d : Ask) → i < length asks →
+    length now ≡ length before → AskedWith before asks now (drop i asks) →
+    ((word : ℕ) → word < length now → slice_index after word
+    ≡ slice_index now word + (if (get_or asks i d).cluster == word then (get_or asks i d).bytes else 0)) →
+    AskedWith before asks after (drop (i + 1) asks)
 one_asked before now after asks i d inside long are one word within =
-    let a : Account = account_at before word in
-    let ask : Ask = get_or asks i d in
-    let more : ℕ = cond (ask.cluster == word) ask.bytes 0 in
-    one word (omega (arith, within, long)) ∙ ap (with_asked more) (are word within)
-    ∙ same_asked a (a.asked + asked (take i asks) word + more) (a.asked + asked (take (i + 1) asks) word)
-    (omega (arith, asked_more asks i word d inside))
+    omega (arith, are word within, one word (omega (arith, within, long)), asked_from asks i word d inside)
 
-pub ask_fits : (before now : List Account) (asks : List Ask) (i : ℕ) (d : Ask) → i < length asks →
+pub ask_fits : (before now : List ℕ) (asks : List Ask) (i : ℕ) (d : Ask) → i < length asks →
     length now ≡ length before →
-    ((word : ℕ) → word < length before → (account_at before word).asked + asked asks word < 18446744073709551616) →
-    AskedMore before (take i asks) now → (get_or asks i d).cluster < length now →
-    (account_at now (get_or asks i d).cluster).asked + (get_or asks i d).bytes < 18446744073709551616
+    ((word : ℕ) → word < length before → slice_index before word + asked asks word < 18446744073709551616) →
+    AskedWith before asks now (drop i asks) → (get_or asks i d).cluster < length now →
+    slice_index now (get_or asks i d).cluster + (get_or asks i d).bytes < 18446744073709551616
 ask_fits before now asks i d inside long room are known =
     let ask : Ask = get_or asks i d in
     let within : ask.cluster < length before = omega (arith, known, long) in
     omega (
       arith,
-      ap (λ (a : Account). a.asked) (are ask.cluster within),
+      are ask.cluster within,
       room ask.cluster within,
-      asked_more asks i ask.cluster d inside,
+      asked_from asks i ask.cluster d inside,
       ap (λ b. cond {A = ℕ} b ask.bytes 0) (eq-eqb ask.cluster ask.cluster refl),
-      asked_front asks (i + 1) ask.cluster,
     )
 
 -- with what rounds ask for
-pub none_brought : (v : TraceAsks) (begun : ℕ) (accounts : List Account) (word : ℕ) → AreAsked v begun accounts →
-    word < length accounts → account_at accounts word ≡ brought v begun word (account_at accounts word)
-none_brought v begun accounts word are inside =
-    let a : Account = account_at accounts word in
-    same_asked a a.asked (asked_in v begun word) (are.asked word inside)
+pub round_asked : (v : TraceAsks) (round : ℕ) (now after : List ℕ) → round < v.rounds → length after ≡ length now →
+    AreAsked v round now → ((word : ℕ) → word < length now →
+    slice_index after word ≡ slice_index now word + asked (asks_in v round) word) → AreAsked v (round + 1) after
+round_asked v round now after within long are more = record {
+  inside = omega (arith, within);
+  asked = λ word inside.
+      let here : word < length now = omega (arith, inside, long) in
+      more word here ∙ ap (λ n. n + asked (asks_in v round) word) (are.asked word here) ∙ sym (asked_next v round word);
+}
 
-pub round_brought : (v : TraceAsks) (round word : ℕ) (a now after : Account) → now ≡ brought v round word a →
-    after ≡ with_asked (asked (asks_in v round) word) now → after ≡ brought v (round + 1) word a
-round_brought v round word a now after before more =
-    more ∙ ap (with_asked (asked (asks_in v round) word)) before
-    ∙ same_asked a (asked_in v round word + asked (asks_in v round) word) (asked_in v (round + 1) word)
-    (sym (asked_next v round word))
-
-pub round_fits : (v : TraceAsks) (round word : ℕ) (a now : Account) → IsTrace v → now ≡ brought v round word a →
-    now.asked + asked (asks_in v round) word < 18446744073709551616
-round_fits v round word a now trace before =
-    omega (
-      arith,
-      ap (λ (b : Account). b.asked) before,
-      asked_next v round word,
-      asked_few v (round + 1) word trace,
-    )
+pub round_fits : (v : TraceAsks) (round word : ℕ) (now : List ℕ) → IsTrace v → AreAsked v round now → word < length now →
+    slice_index now word + asked (asks_in v round) word < 18446744073709551616
+round_fits v round word now trace are inside =
+    omega (arith, are.asked word inside, asked_next v round word, asked_few v (round + 1) word trace)
 
 -- The cuts of rounds ask for the same.
 
@@ -270,7 +235,7 @@ same_first rounds p q (Some at) same first = (
 )
 
 -- where a test may fail now in a round behind which it holds
-first_next : (rounds round : ℕ) (p q : ℕ → Bool) (over : Bool) (answer : Option ℕ) → round < rounds →
+pub first_next : (rounds round : ℕ) (p q : ℕ → Bool) (over : Bool) (answer : Option ℕ) → round < rounds →
     ((i : ℕ) → i < round → q i ≡ p i) → q round ≡ (p round && not over) →
     ((i : ℕ) → round < i → i < rounds → (p i ≡ true) × (q i ≡ true)) →
     IsFirstRound rounds p answer → IsFirstRound rounds q (short_then round over answer)
@@ -305,20 +270,18 @@ first_next rounds round p q false None inside early here late first = λ i withi
 
 -- One cluster, and one line more, of no earlier round.
 
-module _ (v : TraceAsks) (grants : List Grant) (turn : Turn) (g : Grant) (a b : Account)
+module _ (v : TraceAsks) (grants : List Grant) (turn : Turn) (g : Grant) (a : Account)
     (is : IsCredited v grants turn a) where
   abbrev more : List Grant
   more = grants ++ g ∷ []
 
   -- a line of another cluster, or of no round of the run
-  kept_one : (is_of turn.cluster g && nat_lt g.round v.rounds) ≡ false → b.credited ≡ a.credited → b.short ≡ a.short →
-      IsCredited v more turn b
-  kept_one out credited short = record {
-    left = λ all few. ap (λ n. all - n) credited ∙ is.left all few ∙ ap (λ n. all - n) (sym (within v.rounds (omega arith)));
-    short = subst (IsFirstRound v.rounds (holds v more turn)) (sym short)
-        (same_first v.rounds (holds v grants turn) (holds v more turn) a.short
+  kept_one : (is_of turn.cluster g && nat_lt g.round v.rounds) ≡ false → IsCredited v more turn a
+  kept_one out = record {
+    left = λ all few. is.left all few ∙ ap (λ n. all - n) (sym (within v.rounds (omega arith)));
+    short = same_first v.rounds (holds v grants turn) (holds v more turn) a.short
         (λ round inside. ap₂ (λ credit before. nat_le credit (asked_in v (round + 1) turn.number - before))
-        (sym (in_same round inside)) (sym (within round (omega (arith, inside))))) is.short);
+        (sym (in_same round inside)) (sym (within round (omega (arith, inside))))) is.short;
   }
     where
       out_of : (own early test : Bool) → (own && early) ≡ false → (test ≡ true → early ≡ true) → (own && test) ≡ false
@@ -344,10 +307,10 @@ module _ (v : TraceAsks) (grants : List Grant) (turn : Turn) (g : Grant) (a b : 
       within rounds most = same (λ n. nat_lt n rounds) (λ is. omega (arith, ltb-true g.round rounds is, most))
 
   -- and its own
-  own_one : AreUpTo g.round grants → is_of turn.cluster g ≡ true → g.round < v.rounds →
+  own_one : (b : Account) → AreUpTo g.round grants → is_of turn.cluster g ≡ true → g.round < v.rounds →
       asked_in v (g.round + 1) turn.number < 18446744073709551616 →
-      TakesCredit g.round g.credit (brought v (g.round + 1) turn.number a) b → IsCredited v more turn b
-  own_one upto own inside few takes = record {
+      TakesCredit (asked_in v (g.round + 1) turn.number) g.round g.credit a b → IsCredited v more turn b
+  own_one b upto own inside few takes = record {
     left = λ all fits.
         omega (
           arith,
@@ -409,26 +372,26 @@ module _ (v : TraceAsks) (grants : List Grant) (turn : Turn) (g : Grant) (a b : 
 module _ (v : TraceAsks) (turns : List Turn) (g : Grant) (accounts after : List Account)
     (named : AreNamed (length accounts) turns) where
   each_turn : (P Q : Turn → Type 0) → ((turn : Turn) → turn.number < length accounts →
-      is_of turn.cluster g ≡ has_word turn.number (find (names g.id g.i) turns) → P turn → Q turn) →
+      is_of turn.cluster g ≡ is_number turn.number (word_of g.id g.i turns) → P turn → Q turn) →
       AllByRecursion P turns → AllByRecursion Q turns
   each_turn P Q each all =
       all_weaker
       (λ turn. (turn.number < length accounts)
-      × ((names g.id g.i turn ≡ has_word turn.number (find (names g.id g.i) turns)) × P turn))
+      × ((names g.id g.i turn ≡ is_number turn.number (word_of g.id g.i turns)) × P turn))
       Q (λ turn of. each turn of.0 of.1.0 of.1.1) turns
       (all_both (λ turn. turn.number < length accounts)
-      (λ turn. (names g.id g.i turn ≡ has_word turn.number (find (names g.id g.i) turns)) × P turn) turns named.inside
-      (all_both (λ turn. names g.id g.i turn ≡ has_word turn.number (find (names g.id g.i) turns)) P turns
+      (λ turn. (names g.id g.i turn ≡ is_number turn.number (word_of g.id g.i turns)) × P turn) turns named.inside
+      (all_both (λ turn. names g.id g.i turn ≡ is_number turn.number (word_of g.id g.i turns)) P turns
       (named.named g.id g.i) all))
 
 -- The ledger.
 
 -- before all rounds
-pub start_asked : (v : TraceAsks) (words : ℕ) → AreAsked v 0 (replicate words nothing)
+pub start_asked : (v : TraceAsks) (words : ℕ) → AreAsked v 0 (replicate words 0)
 start_asked v words = record {
   inside = omega arith;
-  asked = λ word inside. ap (λ (a : Account). a.asked) (get_or-replicate words word nothing nothing
-      (omega (arith, inside, length-replicate words nothing)));
+  asked = λ word inside.
+      get_or-replicate words word 0 0 (omega (arith, inside, length-replicate {A = ℕ} words 0));
 }
 
 pub start_credited : (v : TraceAsks) (turns : List Turn) (words : ℕ) → AllByRecursion (λ turn. turn.number < words) turns →
@@ -443,97 +406,61 @@ start_credited v turns words known =
 
 -- One line more.
 
-module _ (v : TraceAsks) (turns : List Turn) (g : Grant) (before : Ledger)
-    (named : AreNamed (length before.accounts.items) turns) (ordered : before.begun ≤ g.round + 1)
-    (asked : AreAsked v before.begun before.accounts.items) where
+module _ (v : TraceAsks) (turns : List Turn) (g : Grant) (before after : Ledger)
+    (named : AreNamed (length before.accounts.items) turns) (ordered : after.begun ≤ g.round + 1)
+    (words : length after.asked.items ≡ length before.asked.items) (asked : AreAsked v after.begun after.asked.items) where
   abbrev old : List Account
   old = before.accounts.items
 
-  -- of no round of the run
-  pub late_taken : v.rounds ≤ g.round → TakesLine v turns g before before
-  late_taken late = record {
+  abbrev now : List Account
+  now = after.accounts.items
+
+  -- that credits no cluster,
+  pub kept_taken : ((turn : Turn) → is_of turn.cluster g ≡ is_number turn.number (word_of g.id g.i turns) →
+      (is_of turn.cluster g && nat_lt g.round v.rounds) ≡ false) → now ≡ old → TakesLine v turns g before after
+  kept_taken out same = record {
     ordered = ordered;
-    long = refl;
+    words = words;
+    long = ap length same;
     asked = asked;
     credited = λ grants upto credited.
         each_turn v turns g old old named (λ turn. IsCredited v grants turn (account_at old turn.number))
-        (λ turn. IsCredited v (grants ++ g ∷ []) turn (account_at old turn.number))
-        (λ turn known own is. kept_one v grants turn g (account_at old turn.number) (account_at old turn.number) is
-        (and_right (is_of turn.cluster g) (nat_lt g.round v.rounds) (le-ltb g.round v.rounds late)) refl refl) credited;
+        (λ turn. IsCredited v (grants ++ g ∷ []) turn (account_at now turn.number))
+        (λ turn known own is.
+        subst (λ these. IsCredited v (grants ++ g ∷ []) turn (account_at these turn.number)) (sym same)
+        (kept_one v grants turn g (account_at old turn.number) is (out turn own))) credited;
   }
 
-  -- of one, up to which the rounds have begun
-  module _ (after : Ledger) (inside : g.round < v.rounds) (begun : after.begun ≡ g.round + 1)
-      (long : length after.accounts.items ≡ length old) (now : List Account) (are : (word : ℕ) → word < length old →
-      account_at now word ≡ brought v (g.round + 1) word (account_at old word)) where
-    abbrev all : List Account
-    all = after.accounts.items
-
-    -- that names no cluster,
-    pub unnamed_taken : find (names g.id g.i) turns ≡ None → all ≡ now → TakesLine v turns g before after
-    unnamed_taken none same = record {
-      ordered = omega (arith, begun);
-      long = long;
-      asked = record {
-        inside = omega (arith, begun, inside);
-        asked = λ word within.
-            ap (λ these. (account_at these word).asked) same
-            ∙ ap (λ (a : Account). a.asked) (are word (omega (arith, within, long)))
-            ∙ ap (λ n. asked_in v n word) (sym begun);
-      };
-      credited = λ grants upto credited.
-          each_turn v turns g old all named (λ turn. IsCredited v grants turn (account_at old turn.number))
-          (λ turn. IsCredited v (grants ++ g ∷ []) turn (account_at all turn.number))
-          (λ turn known own is.
-          let kept = ap (λ these. account_at these turn.number) same ∙ are turn.number known in
-          kept_one v grants turn g (account_at old turn.number) (account_at all turn.number) is
-          (and_left (is_of turn.cluster g) (nat_lt g.round v.rounds) (own ∙ ap (has_word turn.number) none))
-          (ap (λ (a : Account). a.credited) kept) (ap (λ (a : Account). a.short) kept)) credited;
-    }
-
-    -- or names this one
-    pub named_taken : (u : Turn) → find (names g.id g.i) turns ≡ Some u → u.number < length old → IsTrace v →
-        TakesCredit g.round g.credit (account_at now u.number) (account_at all u.number) →
-        ((other : ℕ) → (other ≡ u.number → ⊥) → account_at all other ≡ account_at now other) →
-        TakesLine v turns g before after
-    named_taken u found there trace takes others = record {
-      ordered = omega (arith, begun);
-      long = long;
-      asked = record {
-        inside = omega (arith, begun, inside);
-        asked = λ word within.
-            let here = ap (λ (a : Account). a.asked) (are word (omega (arith, within, long)))
-            ∙ ap (λ n. asked_in v n word) (sym begun) in
-            elim (cases_eq word u.number) [
-              | inl same ↦ (own_credit word same).asked ∙ here
-              | inr other ↦ ap (λ (a : Account). a.asked) (others word other) ∙ here
-            ];
-      };
-      credited = λ grants upto credited.
-          each_turn v turns g old all named (λ turn. IsCredited v grants turn (account_at old turn.number))
-          (λ turn. IsCredited v (grants ++ g ∷ []) turn (account_at all turn.number))
-          (λ turn known own is.
-          let it : is_of turn.cluster g ≡ (u.number == turn.number) = own ∙ ap (has_word turn.number) found in
-          elim (cases_eq turn.number u.number) [
-            | inl same ↦
-                own_one v grants turn g (account_at old turn.number) (account_at all turn.number) is upto
-                (it ∙ eq-eqb u.number turn.number (sym same)) inside
-                (omega (arith, asked_few v (g.round + 1) turn.number trace))
-                (subst (λ a. TakesCredit g.round g.credit a (account_at all turn.number)) (are turn.number known)
-                (own_credit turn.number same))
-            | inr other ↦
-                let kept = others turn.number other ∙ are turn.number known in
-                kept_one v grants turn g (account_at old turn.number) (account_at all turn.number) is
-                (and_left (is_of turn.cluster g) (nat_lt g.round v.rounds)
-                (it ∙ ne_eqb u.number turn.number (λ same. other (sym same))))
-                (ap (λ (a : Account). a.credited) kept) (ap (λ (a : Account). a.short) kept)
-          ]) credited;
-    }
-      where
-        own_credit : (word : ℕ) → word ≡ u.number →
-            TakesCredit g.round g.credit (account_at now word) (account_at all word)
-        own_credit word same =
-            subst (λ n. TakesCredit g.round g.credit (account_at now n) (account_at all n)) (sym same) takes
+  -- or this one
+  pub named_taken : (u : Turn) → find (names g.id g.i) turns ≡ Some u → g.round < v.rounds → IsTrace v →
+      length now ≡ length old →
+      TakesCredit (asked_in v (g.round + 1) u.number) g.round g.credit (account_at old u.number) (account_at now u.number) →
+      ((other : ℕ) → (other ≡ u.number → ⊥) → account_at now other ≡ account_at old other) → TakesLine v turns g before after
+  named_taken u found inside trace long takes others = record {
+    ordered = ordered;
+    words = words;
+    long = long;
+    asked = asked;
+    credited = λ grants upto credited.
+        each_turn v turns g old old named (λ turn. IsCredited v grants turn (account_at old turn.number))
+        (λ turn. IsCredited v (grants ++ g ∷ []) turn (account_at now turn.number))
+        (λ turn known own is.
+        let it : is_of turn.cluster g ≡ (u.number == turn.number) =
+        own ∙ ap (λ found. is_number turn.number (word_in found)) found in
+        elim (cases_eq turn.number u.number) [
+          | inl same ↦
+              own_one v grants turn g (account_at old turn.number) is (account_at now turn.number) upto
+              (it ∙ eq-eqb u.number turn.number (sym same)) inside
+              (omega (arith, asked_few v (g.round + 1) turn.number trace))
+              (subst (λ n. TakesCredit (asked_in v (g.round + 1) n) g.round g.credit (account_at old n) (account_at now n))
+              (sym same) takes)
+          | inr other ↦
+              subst (IsCredited v (grants ++ g ∷ []) turn) (sym (others turn.number other))
+              (kept_one v grants turn g (account_at old turn.number) is
+              (and_left (is_of turn.cluster g) (nat_lt g.round v.rounds)
+              (it ∙ ne_eqb u.number turn.number (λ same. other (sym same)))))
+        ]) credited;
+  }
 
 -- Behind all lines.
 

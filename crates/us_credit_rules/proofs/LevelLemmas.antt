@@ -67,21 +67,6 @@ has-nothing l = elim (cases_Bool (l.rate == 0)) [
   | inr some ↦ rw some (le-leb 0 (l.units / units_per_byte) (omega arith))
 ]
 
--- the test says what the bucket has
-pub has-is : (l : Level) (bytes : ℕ) → has l bytes ≡ true → Has l bytes
-unfolding bytes_in
-has-is l bytes is = elim (cases_Bool (l.rate == 0)) [
-  | inl none ↦ rw none tt
-  | inr some ↦ rw some (leb-true bytes (l.units / units_per_byte) (rw some at is))
-]
-
-pub has-from : (l : Level) (bytes : ℕ) → Has l bytes → has l bytes ≡ true
-unfolding bytes_in
-has-from l bytes has = elim (cases_Bool (l.rate == 0)) [
-  | inl none ↦ rw none refl
-  | inr some ↦ rw some (le-leb bytes (l.units / units_per_byte) (rw some at has))
-]
-
 -- Full buckets.
 
 pub full-is : (rate burst : ℕ) → IsLevel (full rate burst)

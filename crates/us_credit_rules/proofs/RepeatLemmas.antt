@@ -1,7 +1,7 @@
 -- Lines of requests: which is the only one of its cluster, channel and round, and which is right for the cluster that
 -- it names.
-use Rattle.std.proofs.Common.{◌≡◌, ℕ, zero, suc, ◌+◌, ◌-◌, ◌*◌, ◌<◌, ◌≤◌, ◌==◌, Bool, true, false, cond, List, [], ◌∷◌, ◌++◌, length, get_or, replicate, set, Option, Some, None, refl, sym, ap, ap₂, ◌∙◌, ◌⊎◌, inl, inr, arith, eq-eqb, ne_eqb}
-use Rattle.std.specs.Prelude.{◌&&◌, ◌||◌, not, nat_eq, nat_lt, if◌then◌else◌, find, count_by, option_and_then, slice_get}
+use Rattle.std.proofs.Common.{◌≡◌, ℕ, ◌+◌, ◌*◌, ◌<◌, ◌≤◌, ◌==◌, Bool, true, false, cond, List, [], ◌∷◌, ◌++◌, length, get_or, replicate, set, Option, Some, None, refl, sym, ap, ap₂, ◌∙◌, ◌⊎◌, inl, inr, arith, eq-eqb, ne_eqb}
+use Rattle.std.specs.Prelude.{◌&&◌, ◌||◌, not, nat_eq, nat_lt, if◌then◌else◌, find, count_by, IfSome}
 use Rattle.std.specs.List.{AllByRecursion, list_all, list_any}
 use Rattle.std.specs.Option.{option_eq}
 use Rattle.std.proofs.lemmas.Bool.{and_from, and_left, and_parts, and_right, cases_Bool, cases_eq, cases_lt, eqb-false, eqb-true, false≢true, false_from_ne_true, le-ltb, lt-ltb, or_right}
@@ -13,7 +13,7 @@ use Rattle.us_flows.specs.declared.channels.Channel.{Channel}
 use Rattle.us_flows.specs.Tables.{Tables, channel_with}
 use Rattle.us_flows.specs.Lawful.{AreTables, IsChannel}
 use Rattle.us_flows.specs.Clusters.{Turn, IsTurnIn, has_sid, table_order}
-use Rattle.us_flows.proofs.TurnLaws.{table_order-turns}
+use Rattle.us_flows.proofs.TurnLaws.{one_turn, table_order-turns}
 use Rattle.us_requests.specs.Traces.{TraceAsks}
 use Rattle.us_output.specs.declared.rows.Grant.{Grant}
 use Rattle.us_output.specs.declared.rows.Row.{Row}
@@ -29,10 +29,10 @@ use Rattle.us_reports.specs.Order.{earlier}
 use Rattle.us_reports.proofs.BreachLemmas.{any_append, append_any, at_test, at_there, joined, same_places}
 use Rattle.us_reports.proofs.AnyLemmas.{any_at, any_each, any_of_all, any_where}
 use Rattle.us_credit_rules.specs.Ends.{unless}
-use Rattle.us_credit_rules.specs.Seats.{is_number, names, place_of}
+use Rattle.us_credit_rules.specs.Seats.{is_number, names, word_in, word_of}
 use Rattle.us_credit_rules.specs.Repeats.{AreNoted, AreWrong, IsWrong, is_right_for, is_right_line, is_told, key_for, key_of, line_place, noted, wrong_place}
 use Rattle.us_credit_rules.proofs.LedgerLemmas.{AreUpTo}
-use Rattle.us_credit_rules.proofs.SeatLemmas.{find_number, found_passes, named_found, number_below, number_found, one_named}
+use Rattle.us_credit_rules.proofs.SeatLemmas.{found_all, found_passes, named_found, no_numbers, one_named, word_is}
 
 same_test : (a b : Bool) → (a ≡ true → b ≡ true) → (b ≡ true → a ≡ true) → a ≡ b
 same_test true b there back = sym (there refl)
@@ -63,29 +63,40 @@ key_parts (Some number) channel key is = elim (cases_lt channel 256) [
   | inr large ↦ absurd (false≢true (rw (le-ltb channel 256 large) at is))
 ]
 
--- lines that name the same cluster have the same id and place
-one_name : (turns : List Turn) (id list other_id other_list k : ℕ) → place_of id list turns ≡ Some k →
-    place_of other_id other_list turns ≡ Some k → (other_id ≡ id) × (other_list ≡ list)
-one_name turns id list other_id other_list k found found_other =
-    let a = number_found (names id list) 0 turns k found in
-    let b = number_found (names other_id other_list) 0 turns k found_other in
-    let place : b.0 ≡ a.0 = omega (arith, a.2, b.2) in
-    let there : Some b.1 ≡ Some a.1 = sym b.3 ∙ ap (slice_get turns) place ∙ a.3 in
-    let same : b.1 ≡ a.1 = cc there in
-    let first = and_parts (id == a.1.cluster.flow.id) (list == a.1.cluster.list) a.4 in
-    let second = and_parts (other_id == b.1.cluster.flow.id) (other_list == b.1.cluster.list) b.4 in (
-      eqb-true other_id b.1.cluster.flow.id second.0 ∙ ap (λ (t : Turn). t.cluster.flow.id) same
-          ∙ sym (eqb-true id a.1.cluster.flow.id first.0),
-      eqb-true other_list b.1.cluster.list second.1 ∙ ap (λ (t : Turn). t.cluster.list) same
-          ∙ sym (eqb-true list a.1.cluster.list first.1),
-    )
+-- the cluster of a word that a line names
+record IsNamed (t : Tables) (id list word : ℕ) : Type 0 where
+  turn : Turn
+  known : IsTurnIn t turn
+  number : turn.number ≡ word
+  id_is : id ≡ turn.cluster.flow.id
+  list_is : list ≡ turn.cluster.list
+
+word_named : (t : Tables) (id list word : ℕ) → word_of id list (table_order t) ≡ Some word → IsNamed t id list word
+word_named t id list word named = of (find (names id list) (table_order t)) refl named
+  where
+    of : (found : Option Turn) → find (names id list) (table_order t) ≡ found → word_in found ≡ Some word →
+        IsNamed t id list word
+    of None is none = absurd (cc none)
+    of (Some turn) is some =
+        let there = found_passes (names id list) (IsTurnIn t) (table_order t) turn is (table_order-turns t) in
+        let parts = and_parts (id == turn.cluster.flow.id) (list == turn.cluster.list) there.1 in
+        record {
+          turn = turn;
+          known = there.0;
+          number = cc some;
+          id_is = eqb-true id turn.cluster.flow.id parts.0;
+          list_is = eqb-true list turn.cluster.list parts.1;
+        }
 
 -- lines are of the same cluster, channel and round just where they have the same key and round
-like_key : (turns : List Turn) (g o : Grant) (key : ℕ) → key_of turns g ≡ Some key →
-    is_like g o ≡ (is_number key (key_of turns o) && (o.round == g.round))
-like_key turns g o key is =
+like_key : (t : Tables) (g o : Grant) (key : ℕ) → key_of (table_order t) g ≡ Some key →
+    is_like g o ≡ (is_number key (key_of (table_order t) o) && (o.round == g.round))
+like_key t g o key is =
     same_test (is_like g o) (is_number key (key_of turns o) && (o.round == g.round)) there back
   where
+    turns : List Turn
+    turns = table_order t
+
     own : is_number key (key_of turns g) ≡ true
     own = ap (is_number key) is ∙ eq-eqb key key refl
 
@@ -96,23 +107,27 @@ like_key turns g o key is =
         let c = and_parts (o.id == g.id) (o.i == g.i) b.1 in
         and_from (is_number key (key_of turns o)) (o.round == g.round)
         (ap (λ found. is_number key (key_for found o.channel))
-        (ap₂ (λ id list. place_of id list turns) (eqb-true o.id g.id c.0) (eqb-true o.i g.i c.1))
-        ∙ ap (λ channel. is_number key (key_for (place_of g.id g.i turns) channel)) (eqb-true o.channel g.channel b.0)
+        (ap₂ (λ id list. word_of id list turns) (eqb-true o.id g.id c.0) (eqb-true o.i g.i c.1))
+        ∙ ap (λ channel. is_number key (key_for (word_of g.id g.i turns) channel)) (eqb-true o.channel g.channel b.0)
         ∙ own)
         a.0
 
     back : (is_number key (key_of turns o) && (o.round == g.round)) ≡ true → is_like g o ≡ true
     back same =
         let both = and_parts (is_number key (key_of turns o)) (o.round == g.round) same in
-        let a = key_parts (place_of g.id g.i turns) g.channel key own in
-        let b = key_parts (place_of o.id o.i turns) o.channel key both.0 in
+        let a = key_parts (word_of g.id g.i turns) g.channel key own in
+        let b = key_parts (word_of o.id o.i turns) o.channel key both.0 in
         let channel : o.channel ≡ g.channel = omega (arith, a.small, b.small, a.made, b.made) in
         let number : b.number ≡ a.number = omega (arith, a.small, b.small, a.made, b.made) in
-        let name = one_name turns g.id g.i o.id o.i a.number a.found_is (b.found_is ∙ ap (λ n. Some n) number) in
+        let m = word_named t g.id g.i a.number a.found_is in
+        let n = word_named t o.id o.i b.number b.found_is in
+        let one : n.turn ≡ m.turn = one_turn t n.turn m.turn n.known m.known (n.number ∙ number ∙ sym m.number) in
         and_from (o.round == g.round) ((o.channel == g.channel) && ((o.id == g.id) && (o.i == g.i)))
         both.1
         (and_from (o.channel == g.channel) ((o.id == g.id) && (o.i == g.i)) (eq-eqb o.channel g.channel channel)
-        (and_from (o.id == g.id) (o.i == g.i) (eq-eqb o.id g.id name.0) (eq-eqb o.i g.i name.1)))
+        (and_from (o.id == g.id) (o.i == g.i)
+        (eq-eqb o.id g.id (n.id_is ∙ ap (λ (u : Turn). u.cluster.flow.id) one ∙ sym m.id_is))
+        (eq-eqb o.i g.i (n.list_is ∙ ap (λ (u : Turn). u.cluster.list) one ∙ sym m.list_is))))
 
 -- Clusters.
 
@@ -161,12 +176,8 @@ no_channel t id lawful large =
 -- a line without a key isn't right
 no_key : (t : Tables) (g : Grant) → AreTables t → key_of (table_order t) g ≡ None →
     is_right_line t.channels (table_order t) g ≡ false
-no_key t g lawful none = of (place_of g.id g.i (table_order t)) refl
+no_key t g lawful none = of (find (names g.id g.i) (table_order t)) refl
   where
-    found_by : find (names g.id g.i) (table_order t)
-        ≡ option_and_then (λ k. slice_get (table_order t) (k - 0)) (place_of g.id g.i (table_order t))
-    found_by = find_number (names g.id g.i) 0 (table_order t)
-
     large_out : 256 ≤ g.channel → (found : Option Turn) → is_right_for t.channels g found ≡ false
     large_out large None = refl
     large_out large (Some u) =
@@ -175,14 +186,13 @@ no_key t g lawful none = of (place_of g.id g.i (table_order t)) refl
         (and_right (has_sid g.channel g.sid u.cluster) (nat_lt 0 g.credit && costs)
         (and_right (nat_lt 0 g.credit) costs (ap (has_cost u.cluster g) (no_channel t g.channel lawful large))))
 
-    of : (found : Option ℕ) → place_of g.id g.i (table_order t) ≡ found →
+    of : (found : Option Turn) → find (names g.id g.i) (table_order t) ≡ found →
         is_right_line t.channels (table_order t) g ≡ false
-    of None is =
-        ap (is_right_for t.channels g) (found_by ∙ ap (option_and_then (λ k. slice_get (table_order t) (k - 0))) is)
-    of (Some k) is = elim (cases_lt g.channel 256) [
+    of None is = ap (is_right_for t.channels g) is
+    of (Some u) is = elim (cases_lt g.channel 256) [
       | inl small ↦
-          absurd (cc (sym none ∙ ap (λ found. key_for found g.channel) is
-          ∙ ap (λ b. if b then Some (k * 256 + g.channel) else None) (lt-ltb g.channel 256 small)))
+          absurd (cc (sym none ∙ ap (λ found. key_for (word_in found) g.channel) is
+          ∙ ap (λ b. if b then Some (u.number * 256 + g.channel) else None) (lt-ltb g.channel 256 small)))
       | inr large ↦ large_out large (find (names g.id g.i) (table_order t))
     ]
 
@@ -312,32 +322,38 @@ module _ (channels : List Channel) (turns : List Turn) (lines : List Grant) (g :
     | inr last ↦ elim last [ inl here ↦ inr (here.0, sym again_test ∙ here.1) | inr none ↦ absurd none ]
   ]
 
--- the key of a line is one of these
-pub key_inside : (turns : List Turn) (g : Grant) (key : ℕ) (last : List (Option ℕ)) → key_of turns g ≡ Some key →
-    length turns * 256 ≤ length last → key < length last
-key_inside turns g key last is long =
-    let parts = key_parts (place_of g.id g.i turns) g.channel key (ap (is_number key) is ∙ eq-eqb key key refl) in
-    omega (arith, parts.small, parts.made, number_below g.id g.i parts.number turns parts.found_is, long)
+-- the key of a word that has room is one of these
+pub key_inside : (word : Option ℕ) (channel long : ℕ) → IfSome word (λ k. k * 256 + 256 ≤ long) →
+    IfSome (key_for word channel) (λ key. key < long)
+key_inside None channel long room = tt
+key_inside (Some k) channel long room = elim (cases_lt channel 256) [
+  | inl small ↦ rw (lt-ltb channel 256 small) (omega (arith, small, room))
+  | inr large ↦ rw (le-ltb channel 256 large) tt
+]
+
+-- nothing is earlier
+pub never_earlier : (channels : List Channel) (first : Option Place) → first ≡ earlier channels first None
+never_earlier channels None = refl
+never_earlier channels (Some p) = refl
 
 -- Before all lines.
 
-none_noted : (count key : ℕ) → ◌≡◌ {A = Option ℕ} (get_or (replicate count None) key None) None
-none_noted zero key = refl
-none_noted (suc count) zero = refl
-none_noted (suc count) (suc key) = none_noted count key
-
-pub start_noted : (turns : List Turn) → AreNoted turns [] 0 (replicate (length turns * 256) None)
-start_noted turns = record {
-  long =
-      let none : Option ℕ = None in
-      omega (arith, length-replicate (length turns * 256) none);
-  told = λ g key late is. ap (λ o. option_eq nat_eq o (Some g.round)) (none_noted (length turns * 256) key);
+pub start_noted : (turns : List Turn) (words : ℕ) → AllByRecursion (λ turn. turn.number < words) turns →
+    AreNoted turns [] 0 (replicate (words * 256) None)
+start_noted turns words inside = record {
+  long = all_weaker (λ turn. turn.number < words)
+      (λ turn. turn.number * 256 + 256 ≤ length (replicate {A = Option ℕ} (words * 256) None))
+      (λ turn few. omega (arith, few, length-replicate {A = Option ℕ} (words * 256) None)) turns inside;
+  told = λ g key late is. ap (λ o. option_eq nat_eq o (Some g.round)) (no_numbers (words * 256) key);
 }
 
 -- Rounds that are noted, with one line more.
 
-module _ (turns : List Turn) (lines : List Grant) (latest : ℕ) (last : List (Option ℕ))
-    (are : AreNoted turns lines latest last) (upto : AreUpTo latest lines) (g : Grant) (later : latest ≤ g.round) where
+module _ (t : Tables) (lines : List Grant) (latest : ℕ) (last : List (Option ℕ))
+    (are : AreNoted (table_order t) lines latest last) (upto : AreUpTo latest lines) (g : Grant) (later : latest ≤ g.round) where
+  abbrev turns : List Turn
+  turns = table_order t
+
   none_like : (o : Grant) → g.round < o.round → list_any (is_like o) lines ≡ false
   none_like o late = none lines upto
     where
@@ -355,7 +371,7 @@ module _ (turns : List Turn) (lines : List Grant) (latest : ℕ) (last : List (O
     | inl same ↦
         ap (λ o'. option_eq nat_eq o' (Some o.round))
         (ap (λ n. get_or (set last k (Some g.round)) n None) (sym same)
-        ∙ get_or-set_same last k (Some g.round) None (omega (arith, same, key_inside turns o key last is are.long)))
+        ∙ get_or-set_same last k (Some g.round) None (omega (arith, same, inside)))
         ∙ its (eq-eqb k key same) (cases_eq g.round o.round)
     | inr other ↦
         ap (λ o'. option_eq nat_eq o' (Some o.round))
@@ -366,6 +382,11 @@ module _ (turns : List Turn) (lines : List Grant) (latest : ℕ) (last : List (O
     where
       told : Bool
       told = list_any (is_like o) lines
+
+      inside : key < length last
+      inside = rw is at (key_inside (word_of o.id o.i turns) o.channel (length last)
+          (word_is (λ k. k * 256 + 256 ≤ length last) (find (names o.id o.i) turns)
+          (found_all (λ turn. turn.number * 256 + 256 ≤ length last) (names o.id o.i) turns are.long)))
 
       its : (k == key) ≡ true → (g.round ≡ o.round) ⊎ (g.round ≡ o.round → ⊥) →
           (g.round == o.round) ≡ (told || ((k == key) && (g.round == o.round)))
@@ -384,10 +405,10 @@ module _ (turns : List Turn) (lines : List Grant) (latest : ℕ) (last : List (O
 
   pub noted_more : AreNoted turns (lines ++ g ∷ []) g.round (noted last (key_of turns g) g.round)
   noted_more = record {
-    long = omega (arith, are.long, same_long (key_of turns g));
+    long = rw (same_long (key_of turns g)) are.long;
     told = λ o key late is.
         noted_told o key late is (key_of turns g)
-        ∙ ap (λ b. list_any (is_like o) lines || b) (sym (like_key turns o g key is))
+        ∙ ap (λ b. list_any (is_like o) lines || b) (sym (like_key t o g key is))
         ∙ sym (any_push (is_like o) lines g);
   }
 
@@ -397,7 +418,8 @@ pub wrong_more : (t : Tables) (lines : List Grant) (latest : ℕ) (last : List (
     (first : Option Place) → AreTables t → AreNoted (table_order t) lines latest last → latest ≤ g.round →
     IsFirstFailure t.channels (AreWrong t.channels (table_order t) lines) first →
     IsFirstFailure t.channels (AreWrong t.channels (table_order t) (lines ++ g ∷ []))
-    (earlier t.channels first (wrong_place t.channels (table_order t) last g))
+    (earlier t.channels first
+    (wrong_place t.channels last g (find (names g.id g.i) (table_order t))))
 wrong_more t lines latest last g first lawful are later wrong =
     let turns : List Turn = table_order t in
     let right : Bool = is_right_line t.channels turns g in

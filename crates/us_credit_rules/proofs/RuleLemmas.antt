@@ -10,19 +10,23 @@ use Rattle.us_flows.specs.Tables.{Tables, FlowTable}
 use Rattle.us_flows.specs.Clusters.{makes_requests, Turn, table_order}
 use Rattle.us_flows.specs.Lawful.{AreTables, HasNoOthers, IsFlow}
 use Rattle.us_requests.specs.Traces.{TraceAsks}
-use Rattle.us_output.proofs.PartLemmas.{all_found}
+use Rattle.us_output.proofs.PartLemmas.{all_found, all_weaker}
 use Rattle.us_reports.specs.declared.place.Place.{Place}
-use Rattle.us_lawful.specs.Runs.{Run, Judged, run_in}
+use Rattle.us_lawful.specs.Runs.{Run, Judged, requested_in, run_in}
 use Rattle.us_lawful.specs.Rates.{flow_credits, flow_rate_holds, rates_hold, span_holds}
 use Rattle.us_reports.specs.Breaches.{IsFirstFailure, IsFirstBreach, Any}
 use Rattle.us_reports.proofs.BreachLemmas.{holds_first}
 use Rattle.us_credit_rules.specs.declared.credit_lines.CreditLines.{CreditLines}
-use Rattle.us_credit_rules.specs.Buckets.{account_in, rate_place}
+use Rattle.us_credit_rules.specs.Buckets.{account_of, rate_place}
 use Rattle.us_credit_rules.specs.CreditLines.{AreCreditLines}
-use Rattle.us_credit_rules.specs.Seats.{place_of}
 use Rattle.us_credit_rules.specs.Shorts.{flow_place}
 use Rattle.us_credit_rules.proofs.PlaceLemmas.{all_tested, flow_first, flow_test}
-use Rattle.us_credit_rules.proofs.KeptLemmas.{flow_account, cluster_short}
+use Rattle.us_credit_rules.proofs.EndLemmas.{first_among}
+use Rattle.us_credit_rules.proofs.KeptLemmas.{IsCreditedTurn, credited_turns, flow_account, requests_moved}
+use Rattle.us_credit_rules.proofs.LedgerLemmas.{short_is}
+use Rattle.us_credit_rules.specs.Ends.{first_of}
+use Rattle.us_credit_rules.specs.declared.ledgers.Account.{Account}
+use Rattle.us_lawful.proofs.SameLemmas.{same_moved}
 use Rattle.us_lawful.specs.Credits.{sum_holds, sums_hold}
 use Rattle.us_credit_rules.specs.Ledgers.{account_at, sum_place}
 
@@ -44,7 +48,7 @@ rate_asks flow UnsolicitedGrant limited others = absurd (omega (arith, limited, 
 pub rate_first : (channels : List Channel) (t : Tables) (v : TraceAsks) (judged : Judged) (kept : CreditLines) (i : ℕ)
     (flow : FlowTable) → AreTables t → slice_get t.flows i ≡ Some flow → AreCreditLines t v judged.lines kept →
     IsFirstFailure channels (λ p. rate_test (run_in t v) judged flow p ≡ false)
-    (rate_place kept.seats kept.requests.flows.items flow)
+    (rate_place flow (account_of kept.requests.flows.items i))
 rate_first channels t v judged kept i flow lawful at are = elim (cases_Bool (flow.rate == 0)) [
   | inl none ↦
       subst Fails (sym (ap answer none)) (flow_first channels v.rounds flow.id test None (λ round within.
@@ -61,7 +65,7 @@ rate_first channels t v judged kept i flow lawful at are = elim (cases_Bool (flo
     test round = flow_rate_holds (run_in t v) judged round flow
 
     short : Option ℕ
-    short = (account_in kept.requests.flows.items (place_of flow.id 0 kept.seats)).short
+    short = (account_of kept.requests.flows.items i).short
 
     answer : Bool → Option Place
     answer none = if none then None else flow_place flow.id short
@@ -85,21 +89,22 @@ abbrev pub sum_test : Run → Judged → Turn → Place → Bool
 sum_test run judged turn p =
     flow_test run.rounds turn.cluster.flow.id (λ round. sum_holds run judged.lines round turn) p
 
--- its first breach
-pub sum_first : (channels : List Channel) (t : Tables) (v : TraceAsks) (judged : Judged) (kept : CreditLines) (place : ℕ)
-    (turn : Turn) → AreTables t → slice_get (table_order t) place ≡ Some turn → AreCreditLines t v judged.lines kept →
-    IsFirstFailure channels (λ p. sum_test (run_in t v) judged turn p ≡ false)
-    (sum_place kept.requests.ledger.accounts.items turn)
-sum_first channels t v judged kept place turn lawful listed are =
-    flow_first channels v.rounds turn.cluster.flow.id (λ round. sum_holds (run_in t v) judged.lines round turn)
-    (account_at kept.requests.ledger.accounts.items turn.number).short
-    (cluster_short t v judged.lines kept place turn lawful listed are)
-
--- and of all clusters
-pub sums_first : (channels : List Channel) (run : Run) (judged : Judged) (answer : Option Place) →
-    IsFirstFailure channels (Any (λ turn p. sum_test run judged turn p ≡ false) (table_order run.tables)) answer →
-    IsFirstFailure channels (λ p. sums_hold run judged p ≡ false) answer
-sums_first channels run judged answer first =
+-- and the first breach of all clusters
+pub sums_first : (t : Tables) (v : TraceAsks) (judged : Judged) (kept : CreditLines) → AreCreditLines t v judged.lines kept →
+    IsFirstFailure t.channels (λ p. sums_hold (run_in t v) judged p ≡ false)
+    (first_of t.channels (sum_place kept.requests.ledger.accounts.items) kept.seats)
+sums_first t v judged kept are =
+    let run : Run = run_in t v in
+    let accounts : List Account = kept.requests.ledger.accounts.items in
+    let turns : List Turn = table_order t in
+    let Fails : Turn → Place → Type 0 = λ turn p. sum_test run judged turn p ≡ false in
     all_tested (λ p. not ((p.channel == 0) && nat_lt p.round run.rounds))
-    (λ turn p. not (turn.cluster.flow.id == p.third) || sum_holds run judged.lines p.round turn) channels
-    (table_order run.tables) answer first
+    (λ turn p. not (turn.cluster.flow.id == p.third) || sum_holds run judged.lines p.round turn) t.channels turns
+    (first_of t.channels (sum_place accounts) kept.seats)
+    (subst (λ seats. IsFirstFailure t.channels (Any Fails turns) (first_of t.channels (sum_place accounts) seats)) (sym are.2.seats)
+    (first_among t.channels Fails (sum_place accounts) turns
+    (all_weaker (IsCreditedTurn t v are.0 kept) (λ turn. IsFirstFailure t.channels (Fails turn) (sum_place accounts turn))
+    (λ turn is. flow_first t.channels v.rounds turn.cluster.flow.id (λ round. sum_holds run judged.lines round turn)
+    (account_at accounts turn.number).short
+    (short_is t v judged.lines (requested_in are.0) turn (account_at accounts turn.number) is.0.number
+    (requests_moved judged.lines are.0 (same_moved judged.lines are.0 are.1)) is.1)) turns (credited_turns t v are.0 kept are.2))))

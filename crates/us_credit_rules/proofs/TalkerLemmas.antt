@@ -15,10 +15,11 @@ use Rattle.us_calendar.specs.Activity.{active_in, activity, hears}
 use Rattle.us_calendar.specs.Entries.{WordedFlow, with_words}
 use Rattle.us_activity.specs.Activities.{AreMarksOf}
 use Rattle.us_activity.specs.Marks.{Marks}
+use Rattle.us_output.proofs.PartLemmas.{all_weaker}
 use Rattle.us_lawful.specs.Runs.{run_in}
 use Rattle.us_lawful.specs.Finals.{activity_of, talking}
 use Rattle.us_credit_rules.specs.declared.talkers.Talker.{Talker}
-use Rattle.us_credit_rules.specs.Activities.{line_of, talker_of, wanted}
+use Rattle.us_credit_rules.specs.Activities.{line_of, talker_of}
 use Rattle.us_credit_rules.proofs.SeatLemmas.{slice_behind}
 
 -- those among flows of which the first one's words begin with this number
@@ -101,18 +102,19 @@ active_is t v silence =
     (omega (arith, length-map-range_with_len (λ round. cut_of (length (words_of t)) (asks_in v round)) 0 v.rounds)))
     ∙ heard silence true (cuts_in t v)
 
--- so these are the A lines that a run should end with
-pub wanted_is : (t : Tables) (v : TraceAsks) (marks : Marks) (talkers : List Talker) → AreMarksOf t v marks →
-    talkers ≡ map talker_of (talking t) → map (line_of marks v.rounds) talkers ≡ wanted (run_in t v)
-wanted_is t v marks talkers are is = ap (map (line_of marks v.rounds)) is ∙ lines (talking t) (silent_at [] t.flows)
+-- so the A line that a flow should end with is what its last mark says
+pub lines_are : (t : Tables) (v : TraceAsks) (marks : Marks) → AreMarksOf t v marks →
+    AllByRecursion (λ f. line_of marks v.rounds (talker_of f) ≡ activity_of (run_in t v) f) (talking t)
+lines_are t v marks are =
+    all_weaker (λ f. slice_get (words_of t) f.word ≡ Some (Silent f.flow))
+    (λ f. line_of marks v.rounds (talker_of f) ≡ activity_of (run_in t v) f) line (talking t) (silent_at [] t.flows)
   where
-    lines : (fs : List WordedFlow) → AllByRecursion (λ f. slice_get (words_of t) f.word ≡ Some (Silent f.flow)) fs →
-        map (line_of marks v.rounds) (map talker_of fs) ≡ map (activity_of (run_in t v)) fs
-    lines [] at = refl
-    lines (f ∷ fs) at =
+    line : (f : WordedFlow) → slice_get (words_of t) f.word ≡ Some (Silent f.flow) →
+        line_of marks v.rounds (talker_of f) ≡ activity_of (run_in t v) f
+    line f at =
         let silence : Silence = record { word = f.word; slots = 0 } in
-        ap₂ (λ b rest. record { flow = f.flow.id; active = if b then 1 else 0 } ∷ rest)
-        (are.told f.flow silence v.rounds at.0 ∙ active_is t v silence) (lines fs at.1)
+        ap (λ b. record { flow = f.flow.id; active = if b then 1 else 0 })
+        (are.told f.flow silence v.rounds at ∙ active_is t v silence)
 
 -- one of them has an id where one of the flows has
 pub any_talker : (id : ℕ) (fs : List WordedFlow) →

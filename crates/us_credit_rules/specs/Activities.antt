@@ -9,13 +9,11 @@ use Rattle.us_activity.specs.Marks.{Marks, is_active}
 use Rattle.us_calendar.specs.Entries.{WordedFlow}
 use Rattle.us_output.specs.declared.rows.FinalActivity.{FinalActivity}
 use Rattle.us_reports.specs.declared.place.Place.{Place}
-use Rattle.us_lawful.specs.Runs.{Run}
-use Rattle.us_lawful.specs.Finals.{activity_of, is_same_activity, talking}
-use Rattle.us_reports.specs.Breaches.{At}
+use Rattle.us_lawful.specs.Finals.{is_same_activity, talking}
 use Rattle.us_credit_rules.specs.declared.talkers.Talker.{Talker}
 use Rattle.us_credit_rules.specs.declared.talkers.Talkers.{Talkers}
 use Rattle.us_credit_rules.specs.declared.told.Told.{Told}
-use Rattle.us_credit_rules.specs.Ends.{end_place}
+use Rattle.us_credit_rules.specs.Ends.{end_place, unless}
 use Rattle.us_credit_rules.specs.Tellings.{AreTold, is_once, nothing}
 
 -- Flows that tell their activity.
@@ -31,21 +29,19 @@ line_of marks rounds talker =
 
 -- Lines.
 
--- the A lines that a run should end with
-abbrev pub wanted : Run → List FinalActivity
-wanted run = map (activity_of run) (talking run.tables)
-
 -- the number that stands for a flow, its id, if the flow tells its activity
 abbrev pub talker_at : Tables → ℕ → Option ℕ
 talker_at t id = if list_any (λ f. f.flow.id == id) (talking t) then Some id else None
 
 -- what is kept of A lines
 pub record AreTalkers (t : Tables) (v : TraceAsks) (lines : List FinalActivity) (kept : Talkers) : Type 0 where
+  pub all : kept.all.items ≡ map talker_of (talking t)
   pub ids : (id : ℕ) → is_some (slice_index_or kept.ids.items id None) ≡ list_any (λ f. f.flow.id == id) (talking t)
   pub told :
       AreTold t.channels v.rounds (length kept.ids.items) (λ a. a.flow) (λ a. talker_at t a.flow) lines kept.told
 
--- an A line that should be there fails where it isn't all that is told of its flow
-abbrev pub IsUntold : ℕ → List (Told FinalActivity) → FinalActivity → Place → Type 0
-IsUntold rounds told a =
-    At (end_place rounds a.flow) (is_once (is_same_activity a) (slice_index_or told a.flow nothing))
+-- the place of a flow that hasn't just its own A line, by what is told of each id
+abbrev pub talker_place : Marks → ℕ → List (Told FinalActivity) → Talker → Option Place
+talker_place marks rounds told talker =
+    unless (is_once (is_same_activity (line_of marks rounds talker)) (slice_index_or told talker.id nothing))
+    (end_place rounds talker.id)

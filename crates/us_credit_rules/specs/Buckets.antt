@@ -1,12 +1,12 @@
 -- The buckets of flows, told one line of a request after another.
-use Rattle.std.specs.Prelude.{ℕ, ◌-◌, ◌*◌, ◌==◌, nat_le, nat_lt, not, Bool, true, if◌then◌else◌, Option, Some, None, List, map, fold, slice_index_or, slice_set}
-use Rattle.us_flows.specs.Tables.{FlowTable}
-use Rattle.us_flows.specs.Clusters.{Turn}
+use Rattle.std.specs.Prelude.{ℕ, ◌-◌, ◌*◌, ◌==◌, nat_le, nat_lt, not, Bool, true, if◌then◌else◌, Option, Some, None, List, find, map, fold, slice_index_or, slice_set}
+use Rattle.us_flows.specs.Tables.{FlowTable, Tables}
+use Rattle.us_flows.specs.Clusters.{Turn, table_order}
 use Rattle.us_bucket.specs.Levels.{Level, full, refilled, spent, bytes_in, units_in}
 use Rattle.us_output.specs.declared.rows.Grant.{Grant}
 use Rattle.us_reports.specs.declared.place.Place.{Place}
 use Rattle.us_credit_rules.specs.declared.buckets.FlowAccount.{FlowAccount}
-use Rattle.us_credit_rules.specs.Seats.{place_of}
+use Rattle.us_credit_rules.specs.Seats.{flow_in, names}
 use Rattle.us_credit_rules.specs.Shorts.{flow_place, short_then}
 
 -- the bucket has so many bytes
@@ -47,32 +47,30 @@ with_bytes ticks round bytes a =
 abbrev pub units_of : ℕ → ℕ → FlowAccount → Option ℕ
 units_of ticks round a = units_in (level_in ticks a.as_of a.bucket round)
 
--- All of them, each at the place of its flow's first cluster in table order.
+-- All of them, by the places of flows.
 
 abbrev pub no_flow : FlowAccount
 no_flow = full_account 0 0
 
--- the account at a place that was looked up
-abbrev pub account_in : List FlowAccount → Option ℕ → FlowAccount
-account_in flows None = no_flow
-account_in flows (Some place) = slice_index_or flows place no_flow
+abbrev pub account_of : List FlowAccount → ℕ → FlowAccount
+account_of flows place = slice_index_or flows place no_flow
 
--- a line of a round of the run credits the flow whose id it tells
+-- a line credits the flow at a place
 abbrev pub credited_at : ℕ → Grant → Option ℕ → List FlowAccount → List FlowAccount
 credited_at ticks g None flows = flows
 credited_at ticks g (Some place) flows =
-    slice_set flows place (with_bytes ticks g.round g.credit (slice_index_or flows place no_flow))
+    slice_set flows place (with_bytes ticks g.round g.credit (account_of flows place))
 
+-- and one of a round of the run that whose id it tells
 abbrev pub credited_by : ℕ → ℕ → List Turn → List FlowAccount → Grant → List FlowAccount
 credited_by rounds ticks turns flows g =
-    if nat_lt g.round rounds then credited_at ticks g (place_of g.id 0 turns) flows else flows
+    if nat_lt g.round rounds then credited_at ticks g (flow_in (find (names g.id 0) turns)) flows else flows
 
 -- behind all lines
-abbrev pub credited_all : ℕ → ℕ → List Turn → List Grant → List FlowAccount
-credited_all rounds ticks turns grants =
-    fold (credited_by rounds ticks turns) (map (λ turn. full_account turn.cluster.flow.rate turn.cluster.flow.burst) turns) grants
+abbrev pub credited_all : ℕ → Tables → List Grant → List FlowAccount
+credited_all rounds t grants =
+    fold (credited_by rounds t.round_ticks (table_order t)) (map (λ flow. full_account flow.rate flow.burst) t.flows) grants
 
 -- where the bucket of a flow first lacks the bytes of a credit
-abbrev pub rate_place : List Turn → List FlowAccount → FlowTable → Option Place
-rate_place turns flows flow =
-    if flow.rate == 0 then None else flow_place flow.id (account_in flows (place_of flow.id 0 turns)).short
+abbrev pub rate_place : FlowTable → FlowAccount → Option Place
+rate_place flow a = if flow.rate == 0 then None else flow_place flow.id a.short

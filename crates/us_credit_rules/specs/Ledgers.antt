@@ -1,5 +1,5 @@
 -- The ledger of clusters: what words ask for and clusters are credited, told one line of a request after another.
-use Rattle.std.specs.Prelude.{◌≡◌, ℕ, ◌+◌, ◌-◌, ◌<◌, ◌≤◌, ◌==◌, ◌^◌, nat_le, nat_lt, ◌&&◌, Bool, None, Option, List, [], ◌∷◌, ◌++◌, length, filter, sum_by, slice_index_or}
+use Rattle.std.specs.Prelude.{◌≡◌, ℕ, ◌+◌, ◌-◌, ◌<◌, ◌≤◌, ◌==◌, ◌^◌, nat_le, nat_lt, ◌&&◌, Bool, None, Option, List, [], ◌∷◌, ◌++◌, length, filter, sum_by, slice_index, slice_index_or}
 use Rattle.std.specs.List.{AllByRecursion, range_with_len}
 use Rattle.us_flows.specs.Clusters.{Cluster, Turn}
 use Rattle.us_requests.specs.Cuts.{asked}
@@ -14,24 +14,15 @@ use Rattle.us_credit_rules.specs.Shorts.{IsFirstRound, flow_place, short_then}
 -- Accounts of words.
 
 abbrev pub nothing : Account
-nothing = record { asked = 0; credited = 0; short = None }
+nothing = record { credited = 0; short = None }
 
 abbrev pub account_at : List Account → ℕ → Account
 account_at accounts word = slice_index_or accounts word nothing
 
--- with more bytes that are asked for
-abbrev pub with_asked : ℕ → Account → Account
-with_asked bytes a = record a { asked = a.asked + bytes }
-
--- what is outstanding
-abbrev pub left_of : Account → ℕ
-left_of a = a.asked - a.credited
-
--- A credit more leaves so much less of whatever is asked, in 64 bits.
-pub record TakesCredit (round bytes : ℕ) (before after : Account) : Type 0 where
-  pub asked : after.asked ≡ before.asked
+-- Where so much was asked for, a credit more leaves so much less of whatever is asked, in 64 bits.
+pub record TakesCredit (asked round bytes : ℕ) (before after : Account) : Type 0 where
   pub left : (all : ℕ) → all < 2 ^ 64 → all - after.credited ≡ all - before.credited - bytes
-  pub short : after.short ≡ short_then round (nat_lt (left_of before) bytes) before.short
+  pub short : after.short ≡ short_then round (nat_lt (asked - before.credited) bytes) before.short
 
 -- where a cluster is credited more than is outstanding
 abbrev pub sum_place : List Account → Turn → Option Place
@@ -59,13 +50,9 @@ holds v grants turn round =
 -- The ledger, behind some lines, where so many rounds are begun.
 
 -- what words ask for in these rounds
-pub record AreAsked (v : TraceAsks) (begun : ℕ) (accounts : List Account) : Type 0 where
+pub record AreAsked (v : TraceAsks) (begun : ℕ) (sums : List ℕ) : Type 0 where
   pub inside : begun ≤ v.rounds
-  pub asked : (word : ℕ) → word < length accounts → (account_at accounts word).asked ≡ asked_in v begun word
-
--- so an account with what its word asks for
-abbrev pub brought : TraceAsks → ℕ → ℕ → Account → Account
-brought v begun word a = record a { asked = asked_in v begun word }
+  pub asked : (word : ℕ) → word < length sums → slice_index sums word ≡ asked_in v begun word
 
 -- what is left of whatever a cluster asks for, in 64 bits, and the first round in which it is credited more
 pub record IsCredited (v : TraceAsks) (grants : List Grant) (turn : Turn) (a : Account) : Type 0 where
@@ -79,7 +66,8 @@ AreCredited v turns grants accounts =
 -- One line more, which is of no earlier round than those before it.
 pub record TakesLine (v : TraceAsks) (turns : List Turn) (g : Grant) (before after : Ledger) : Type 0 where
   pub ordered : after.begun ≤ g.round + 1
+  pub words : length after.asked.items ≡ length before.asked.items
   pub long : length after.accounts.items ≡ length before.accounts.items
-  pub asked : AreAsked v after.begun after.accounts.items
+  pub asked : AreAsked v after.begun after.asked.items
   pub credited : (grants : List Grant) → AllByRecursion (λ other. other.round ≤ g.round) grants →
       AreCredited v turns grants before.accounts.items → AreCredited v turns (grants ++ g ∷ []) after.accounts.items

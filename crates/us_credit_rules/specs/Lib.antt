@@ -15,7 +15,7 @@ pub mod Buckets
 pub mod Repeats
 -- all this together
 pub mod Requests
--- places behind the last round
+-- the first of places, and those behind the last round
 pub mod Ends
 -- what lines tell of things there
 pub mod Tellings

@@ -21,8 +21,9 @@ pub record AreRequests (t : Tables) (v : TraceAsks) (grants : List Grant) (kept 
   pub rises : RisesTo 0 kept.latest grants
   pub begun : kept.ledger.begun ≤ kept.latest + 1
   pub long : length kept.ledger.accounts.items ≡ length (words_of t)
-  pub asked : AreAsked v kept.ledger.begun kept.ledger.accounts.items
+  pub words : length kept.ledger.asked.items ≡ length (words_of t)
+  pub asked : AreAsked v kept.ledger.begun kept.ledger.asked.items
   pub credited : AreCredited v (table_order t) grants kept.ledger.accounts.items
-  pub flows : kept.flows.items ≡ credited_all v.rounds t.round_ticks (table_order t) grants
+  pub flows : kept.flows.items ≡ credited_all v.rounds t grants
   pub noted : AreNoted (table_order t) grants kept.latest kept.repeats.last.items
   pub wrong : IsFirstFailure t.channels (AreWrong t.channels (table_order t) grants) kept.repeats.first

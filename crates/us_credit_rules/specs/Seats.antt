@@ -1,6 +1,6 @@
 -- Clusters that make requests, by the ids of their flows and their places among the flow's clusters. What lines tell of them
--- goes by their places in table order, and what a trace asks for by their words.
-use Rattle.std.specs.Prelude.{◌≡◌, ℕ, ◌+◌, ◌*◌, ◌<◌, ◌≤◌, ◌==◌, ◌&&◌, Bool, false, if◌then◌else◌, List, [], ◌∷◌, length, slice_index_or, Option, Some, None, find}
+-- and a trace asks for goes by their words.
+use Rattle.std.specs.Prelude.{◌≡◌, ℕ, ◌+◌, ◌*◌, ◌<◌, ◌≤◌, ◌==◌, ◌&&◌, Bool, false, List, length, slice_get, slice_index_or, option_and_then, Option, Some, None, find}
 use Rattle.std.specs.List.{AllByRecursion}
 use Rattle.us_flows.specs.Clusters.{Turn}
 
@@ -8,14 +8,18 @@ use Rattle.us_flows.specs.Clusters.{Turn}
 abbrev pub names : ℕ → ℕ → Turn → Bool
 names id list turn = (id == turn.cluster.flow.id) && (list == turn.cluster.list)
 
--- the number of the first item that passes a test, where the first of all has this number
-abbrev pub number_from : {X : Type 0} → (X → Bool) → ℕ → List X → Option ℕ
-number_from passes n [] = None
-number_from passes n (x ∷ xs) = if passes x then Some n else number_from passes (n + 1) xs
+-- the word of a cluster that was found, and the place of its flow among the flows
+abbrev pub word_in : Option Turn → Option ℕ
+word_in None = None
+word_in (Some turn) = Some turn.number
 
--- the place in table order of the cluster that a line names, if it names one
-abbrev pub place_of : ℕ → ℕ → List Turn → Option ℕ
-place_of id list turns = number_from (names id list) 0 turns
+abbrev pub flow_in : Option Turn → Option ℕ
+flow_in None = None
+flow_in (Some turn) = Some turn.place
+
+-- the word of the cluster that a line names, if it names one
+abbrev pub word_of : ℕ → ℕ → List Turn → Option ℕ
+word_of id list turns = word_in (find (names id list) turns)
 
 -- a number that was found is this one
 abbrev pub is_number : ℕ → Option ℕ → Bool
@@ -35,19 +39,15 @@ code_of turn = turn.cluster.flow.id * 2 + turn.cluster.list
 -- the places of such clusters stand at these
 abbrev pub ArePlaces : List Turn → List (Option ℕ) → Type 0
 ArePlaces turns places =
-    (code : ℕ) → slice_index_or places code None ≡ number_from (λ turn. code_of turn == code) 0 turns
+    (code : ℕ) → option_and_then (slice_get turns) (slice_index_or places code None)
+    ≡ find (λ turn. code_of turn == code) turns
 
 pub record IsIndex (turns : List Turn) (places : List (Option ℕ)) : Type 0 where
   pub seats : AreSeats turns
   pub found : ArePlaces turns places
 
--- the cluster that is found has this word
-abbrev pub has_word : ℕ → Option Turn → Bool
-has_word word None = false
-has_word word (Some turn) = turn.number == word
-
 -- each has its word among so many, and a line names it just where it has the word of what the line names
 pub record AreNamed (words : ℕ) (turns : List Turn) : Type 0 where
   pub inside : AllByRecursion (λ turn. turn.number < words) turns
   pub named : (id list : ℕ) →
-      AllByRecursion (λ turn. names id list turn ≡ has_word turn.number (find (names id list) turns)) turns
+      AllByRecursion (λ turn. names id list turn ≡ is_number turn.number (word_of id list turns)) turns

@@ -1,16 +1,18 @@
-ghost use Rattle.std.specs.Prelude.{◌≡◌, true, slice_index_or, IfOk};
+ghost use Rattle.std.specs.Prelude.{◌≡◌, true, IfOk};
 ghost use Rattle.us_lawful.specs.Runs.{Judged, run_in};
 ghost use Rattle.us_lawful.specs.Finals.{activities_hold, is_same_activity};
-ghost use Rattle.us_reports.specs.Breaches.{IsFirstBreach, IsFirstFailure, Any};
+ghost use Rattle.us_reports.specs.Breaches.{IsFirstBreach};
 ghost use Rattle.us_credit_rules.specs.Activities as spec;
 ghost use Rattle.us_credit_rules.specs.CreditLines.{AreCreditLines};
-ghost use Rattle.us_credit_rules.specs.Tellings.{is_once, nothing};
+ghost use Rattle.us_credit_rules.specs.Ends.{first_of};
+ghost use Rattle.us_credit_rules.specs.Tellings.{is_once};
 
 use crate::credit_lines::CreditLines;
 use crate::ends::unless;
-use crate::talkers::wanted;
-use crate::told::{Tellings, Told};
+use crate::talkers::{Talker, Talkers, line_of};
+use crate::told::Told;
 use std::alloc::Global;
+use us_activity::Activities;
 use us_flows::{Channel, Config};
 use us_reports::{Place, earlier};
 use us_requests::Trace;
@@ -29,27 +31,45 @@ pub fn activities_breach(
     ensures { IfOk result (λ first. (judged : Judged) → AreCreditLines config.now trace.now judged.lines lines.now →
         IsFirstBreach config.now.channels (λ p. activities_hold (run_in config.now trace.now) judged p ≡ true) first) }
 {
-    let wanted = wanted(alloc, config, trace)?;
-    let told = &lines.talkers.told;
-    let untold = first_untold(config.channels(), trace.rounds(), told, &wanted);
-    Ok(earlier(config.channels(), told.strange, untold))
+    let activities = Activities::of(alloc, config, trace)?;
+    let talkers = &lines.talkers;
+    let untold = first_untold(config.channels(), &activities, trace.rounds(), talkers);
+    Ok(earlier(config.channels(), talkers.told.strange, untold))
 }
 
-/// Where one that should be there is first not told, or isn't all that is told of its flow.
+/// Where a flow first has not its own A line.
 fn first_untold(
     channels: &[Channel],
+    activities: &Activities,
     rounds: u32,
-    told: &Tellings<FinalActivity>,
-    wanted: &[FinalActivity],
+    talkers: &Talkers,
 ) -> Option<Place>
-    ensures { IsFirstFailure channels.now (Any (spec.IsUntold rounds told.now.told.items) wanted.now) result }
+    ensures { result ≡ first_of channels.now
+        (spec.talker_place activities.now rounds talkers.now.told.told.items) talkers.now.all.items }
 {
     let mut first = None;
-    for activity in wanted {
-        let once = is_told(told.of(activity.flow as usize), *activity);
-        first = earlier(channels, first, unless(once, rounds, activity.flow));
+    for talker in &talkers.all {
+        first = earlier(
+            channels,
+            first,
+            untold_place(activities, rounds, talkers, talker),
+        );
     }
     first
+}
+
+/// The place of a flow that has not its own A line.
+fn untold_place(
+    activities: &Activities,
+    rounds: u32,
+    talkers: &Talkers,
+    talker: &Talker,
+) -> Option<Place>
+    ensures { result ≡ spec.talker_place activities.now rounds talkers.now.told.told.items talker.now }
+{
+    let told = talkers.told.of(usize::from(talker.id()));
+    let right = is_told(told, line_of(activities, rounds, talker));
+    unless(right, rounds, u64::from(talker.id()))
 }
 
 /// Whether what is told is this, once.

@@ -1,10 +1,12 @@
-ghost use Rattle.std.specs.Prelude.{◌≡◌, ◌≤◌, ◌<◌, ◌-◌, ◌*◌, length, map, slice_index_or, slice_set, if◌then◌else◌, IfOk};
-ghost use Rattle.us_bucket.specs.Levels.{spent};
+ghost use Rattle.std.specs.Prelude.{◌≡◌, ◌≤◌, ◌<◌, ◌-◌, ◌*◌, length, map, nat_lt, if◌then◌else◌, IfOk, IfSome};
+ghost use Rattle.std.specs.Option.{option_copied};
 ghost use Rattle.us_credit_rules.specs.Buckets as spec;
+ghost use Rattle.us_credit_rules.specs.Seats.{flow_in};
 
-use crate::seats::Seats;
+use crate::seats::Seat;
 use std::alloc::{AllocError, Global};
 use us_bucket::Bucket;
+use us_flows::Flow;
 use us_round::Grant;
 
 /// How long a run is.
@@ -47,22 +49,23 @@ impl FlowAccount {
         }
     }
 
-    /// With a credit more, which takes its bytes from the bucket, or all that it has.
-    fn credited(&self, time: RunTime, round: u32, bytes: u64) -> FlowAccount
+    /// A credit more takes its bytes from the bucket, or all that it has.
+    fn credit(&mut self, time: RunTime, round: u32, bytes: u64)
         requires { round < time.rounds }
-        ensures { result ≡ spec.with_bytes time.round_ticks round bytes self.now }
+        ensures { self.new ≡ spec.with_bytes time.round_ticks round bytes self.old }
     {
-        let now = self.level_in(time, round);
-        let short = match self.short {
-            None if !has(&now, bytes) => Some(round),
+        self.bucket = self.level_in(time, round);
+        self.as_of = round;
+        let had = has(&self.bucket, bytes);
+        self.short = match self.short {
+            None if !had => Some(round),
             short => short,
         };
-        FlowAccount {
-            bucket: less(now, self.empty, bytes),
-            empty: self.empty,
-            as_of: round,
-            short,
+        if !had {
+            self.bucket = self.empty;
+            return;
         }
+        self.bucket.spend(bytes);
     }
 
     /// The round of the first credit whose bytes the bucket lacked.
@@ -90,60 +93,44 @@ impl FlowAccount {
     }
 }
 
-/// The account at a place that was looked up; that of no flow where there is none.
-pub(crate) fn account_in(flows: &[FlowAccount], place: Option<u16>) -> FlowAccount
-    ensures { result ≡ spec.account_in flows.now place }
+/// The account of the flow at a place; that of no flow where there is none.
+pub(crate) fn account_of(flows: &[FlowAccount], place: usize) -> FlowAccount
+    ensures { result ≡ spec.account_of flows.now place }
 {
-    match place {
-        Some(place) if usize::from(place) < flows.len() => flows[usize::from(place)],
-        _ => FlowAccount::full(0, 0),
+    if place < flows.len() {
+        return flows[place];
     }
+    FlowAccount::full(0, 0)
 }
 
-/// The accounts of flows before all rounds, each at the place of its flow's first cluster in table order.
-pub(crate) fn full_flows(alloc: Global, seats: &Seats) -> Result<Vec<FlowAccount>, AllocError>
-    ensures { IfOk result (λ flows. flows.items ≡ map (λ turn. spec.full_account turn.cluster.flow.rate turn.cluster.flow.burst) seats.now) }
+/// The accounts of flows before all rounds.
+pub(crate) fn full_flows(alloc: Global, flows: &[Flow]) -> Result<Vec<FlowAccount>, AllocError>
+    ensures { IfOk result (λ accounts. accounts.items ≡ map (λ flow. spec.full_account flow.rate flow.burst) flows.now) }
 {
-    let mut flows = Vec::new(alloc);
-    for seat in seats.all() {
-        flows.push(FlowAccount::full(seat.flow().rate(), seat.flow().burst()))?;
+    let mut accounts = Vec::new(alloc);
+    for flow in flows {
+        accounts.push(FlowAccount::full(flow.rate(), flow.burst()))?;
     }
-    Ok(flows)
+    Ok(accounts)
 }
 
-/// A line more, which is of no earlier round than those before.
-pub(crate) fn take_credit(flows: &mut [FlowAccount], time: RunTime, seats: &Seats, grant: &Grant)
-    requires { length flows.old ≡ length seats.now }
-    ensures { flows.new ≡ spec.credited_by time.rounds time.round_ticks seats.now flows.old grant.now }
+/// A line more, which is of no earlier round than those before. It credits the flow of this cluster.
+pub(crate) fn take_credit(
+    flows: &mut [FlowAccount],
+    time: RunTime,
+    seat: Option<&Seat>,
+    grant: &Grant,
+)
+    requires { IfSome seat (λ seat. seat.now.place < length flows.old) }
+    ensures { flows.new ≡ (if nat_lt grant.now.round time.rounds
+        then spec.credited_at time.round_ticks grant.now (flow_in (option_copied seat.entry)) flows.old else flows.old) }
 {
     if grant.round >= u64::from(time.rounds) {
         return;
     }
-    if let Some(place) = seats.place(grant.id, 0) {
-        credit(flows, time, usize::from(place), grant);
+    if let Some(seat) = seat {
+        flows[seat.place()].credit(time, grant.round as u32, grant.credit);
     }
-}
-
-/// A line credits the flow at a place.
-fn credit(flows: &mut [FlowAccount], time: RunTime, place: usize, grant: &Grant)
-    requires inside { place < length flows.old }
-    requires early { grant.now.round < time.rounds }
-    ensures { flows.new ≡ slice_set flows.old place
-        (spec.with_bytes time.round_ticks grant.now.round grant.now.credit (slice_index_or flows.old place spec.no_flow)) }
-{
-    flows[place] = flows[place].credited(time, grant.round as u32, grant.credit);
-}
-
-/// A bucket without so many bytes, or empty where it has fewer.
-fn less(bucket: Bucket, empty: Bucket, bytes: u64) -> Bucket
-    ensures { result ≡ (if spec.has bucket bytes then spent bytes bucket else empty) }
-{
-    if !has(&bucket, bytes) {
-        return empty;
-    }
-    let mut left = bucket;
-    left.spend(bytes);
-    left
 }
 
 /// Whether a bucket has so many bytes.

@@ -19,7 +19,7 @@ pub struct CreditLines<'a> {
     pub(crate) seats: Seats<'a>,
     /// What lines of requests come to.
     pub(crate) requests: Requests,
-    /// What F lines tell of clusters, by their places in table order,
+    /// What F lines tell of clusters, by their words,
     pub(crate) finals: Tellings<FinalState>,
     /// what A lines tell of flows that tell their activity,
     pub(crate) talkers: Talkers,
@@ -51,8 +51,8 @@ impl<'a> CreditLines<'a> {
         ensures { IfOk result (λ none. spec.AreKept config.now trace.now [] none × (none.requests.latest ≡ 0)) }
     {
         let seats = Seats::new(alloc, config)?;
-        let requests = Requests::new(alloc, config, &seats)?;
-        let finals = Tellings::new(alloc, seats.all().len())?;
+        let requests = Requests::new(alloc, config)?;
+        let finals = Tellings::new(alloc, config.clusters())?;
         let talkers = Talkers::new(alloc, config)?;
         Ok(CreditLines {
             seats,
@@ -91,7 +91,7 @@ impl<'a> CreditLines<'a> {
                 }
             }
             Row::Final(state) => {
-                let cluster = self.seats.place(state.flow, state.cluster).map(usize::from);
+                let cluster = self.seats.word(state.flow, state.cluster);
                 self.finals
                     .take(channels, trace.rounds(), state.flow, cluster, *state);
             }

@@ -1,9 +1,10 @@
-ghost use Rattle.std.specs.Prelude.{◌≡◌, false, true};
+ghost use Rattle.std.specs.Prelude.{◌≡◌, true};
 ghost use Rattle.us_requests.specs.Traces.{TraceAsks};
 ghost use Rattle.us_lawful.specs.Runs.{Judged, run_in};
-ghost use Rattle.us_lawful.specs.Credits.{credits_hold, sums_hold};
-ghost use Rattle.us_reports.specs.Breaches.{IsFirstBreach, IsFirstFailure};
+ghost use Rattle.us_lawful.specs.Credits.{credits_hold};
+ghost use Rattle.us_reports.specs.Breaches.{IsFirstBreach};
 ghost use Rattle.us_credit_rules.specs.CreditLines.{AreCreditLines};
+ghost use Rattle.us_credit_rules.specs.Ends.{first_of};
 ghost use Rattle.us_credit_rules.specs.Ledgers as spec;
 
 use crate::credit_lines::CreditLines;
@@ -26,8 +27,7 @@ pub fn credits_breach(config: &Config, lines: &CreditLines) -> Option<Place>
 /// Where a cluster is first credited more than it asked for. The third number of a place is the id of its flow, and its
 /// channel 0.
 fn first_sum(config: &Config, lines: &CreditLines) -> Option<Place>
-    ensures { (v : TraceAsks) (judged : Judged) → AreCreditLines config.now v judged.lines lines.now →
-        IsFirstFailure config.now.channels (λ p. sums_hold (run_in config.now v) judged p ≡ false) result }
+    ensures { result ≡ first_of config.now.channels (spec.sum_place lines.now.requests.ledger.accounts.items) lines.now.seats }
 {
     let clusters = &lines.requests.ledger.accounts;
     let mut first = None;

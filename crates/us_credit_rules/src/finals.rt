@@ -1,18 +1,19 @@
 ghost use Rattle.std.specs.Prelude.{◌≡◌, true, length, IfOk};
-ghost use Rattle.us_flows.specs.Clusters.{table_order, words_of};
+ghost use Rattle.us_flows.specs.Clusters.{words_of};
 ghost use Rattle.us_flows.specs.Tables.{rounds_fit};
 ghost use Rattle.us_lawful.specs.Runs.{Judged, run_in};
 ghost use Rattle.us_lawful.specs.Finals.{finals_hold};
-ghost use Rattle.us_reports.specs.Breaches.{IsFirstBreach, IsFirstFailure, Any};
+ghost use Rattle.us_reports.specs.Breaches.{IsFirstBreach};
 ghost use Rattle.us_credit_rules.specs.CreditLines.{AreCreditLines};
+ghost use Rattle.us_credit_rules.specs.Ends.{first_of};
 ghost use Rattle.us_credit_rules.specs.LastLines as spec;
 ghost use Rattle.us_credit_rules.specs.Ledgers.{AreAsked};
 ghost use Rattle.us_credit_rules.specs.Tellings.{is_once};
 
-use crate::buckets::{RunTime, account_in};
+use crate::buckets::{RunTime, account_of};
 use crate::credit_lines::CreditLines;
 use crate::ends::unless;
-use crate::ledgers::{Account, Ledger, account_at};
+use crate::ledgers::{account_at, ask_rounds, bytes_at};
 use crate::seats::Seat;
 use crate::told::Told;
 use std::alloc::{AllocError, Global};
@@ -36,44 +37,47 @@ pub fn finals_breach(
         IsFirstBreach config.now.channels (λ p. finals_hold (run_in config.now trace.now) judged p ≡ true) first) }
 {
     let asked = all_asked(alloc, config, trace)?;
-    let wrong = first_wrong(config, trace, lines, &asked);
-    Ok(earlier(config.channels(), lines.finals.strange, wrong))
-}
-
-/// What words ask for in all rounds.
-fn all_asked(alloc: Global, config: &Config, trace: &Trace) -> Result<Vec<Account>, AllocError>
-    ensures { IfOk result (λ all. AreAsked trace.now trace.now.rounds all.items × (length all.items ≡ length (words_of config.now))) }
-{
-    let mut ledger = Ledger::new(alloc, config.clusters())?;
-    ledger.begin(trace, trace.rounds());
-    let Ledger { begun: _, accounts } = ledger;
-    Ok(accounts)
-}
-
-/// Where a cluster first has not its own F line.
-fn first_wrong(
-    config: &Config,
-    trace: &Trace,
-    lines: &CreditLines,
-    asked: &[Account],
-) -> Option<Place>
-    requires fits { rounds_fit config.now trace.now.rounds ≡ true }
-    requires asked { AreAsked trace.now trace.now.rounds asked.now × (length asked.now ≡ length (words_of config.now)) }
-    ensures { (judged : Judged) → AreCreditLines config.now trace.now judged.lines lines.now →
-        IsFirstFailure config.now.channels
-        (Any (spec.IsWrong (run_in config.now trace.now) judged.lines) (table_order config.now)) result }
-{
     let time = RunTime {
         rounds: trace.rounds(),
         round_ticks: config.round_ticks(),
     };
+    let wrong = first_wrong(config, time, lines, &asked);
+    Ok(earlier(config.channels(), lines.finals.strange, wrong))
+}
+
+/// What words ask for in all rounds.
+fn all_asked(alloc: Global, config: &Config, trace: &Trace) -> Result<Vec<u64>, AllocError>
+    ensures { IfOk result (λ all. AreAsked trace.now trace.now.rounds all.items × (length all.items ≡ length (words_of config.now))) }
+{
+    let mut asked = vec![in alloc; 0; config.clusters()]?;
+    ask_rounds(&mut asked, trace, 0, trace.rounds());
+    Ok(asked)
+}
+
+/// Where a cluster first has not its own F line.
+fn first_wrong(config: &Config, time: RunTime, lines: &CreditLines, asked: &[u64]) -> Option<Place>
+    ensures { result ≡ first_of config.now.channels (spec.final_place time.rounds time.round_ticks asked.now
+        lines.now.requests lines.now.finals.told.items) lines.now.seats }
+{
     let mut first = None;
-    for (place, seat) in lines.seats.all().iter().enumerate() {
-        let right = is_right(seat, time, lines, asked, lines.finals.of(place));
-        let wrong = unless(right, time.rounds, u64::from(seat.flow().id()));
-        first = earlier(config.channels(), first, wrong);
+    for seat in lines.seats.all() {
+        first = earlier(
+            config.channels(),
+            first,
+            wrong_place(seat, time, lines, asked),
+        );
     }
     first
+}
+
+/// The place of a cluster that has not its own F line.
+fn wrong_place(seat: &Seat, time: RunTime, lines: &CreditLines, asked: &[u64]) -> Option<Place>
+    ensures { result ≡ spec.final_place time.rounds time.round_ticks asked.now
+        lines.now.requests lines.now.finals.told.items seat.now }
+{
+    let told = lines.finals.of(usize::from(seat.word()));
+    let right = is_right(seat, time, lines, asked, told);
+    unless(right, time.rounds, u64::from(seat.flow().id()))
 }
 
 /// Whether what is told of a cluster is what is outstanding of it and left in the bucket of its flow, once.
@@ -81,19 +85,14 @@ fn is_right(
     seat: &Seat,
     time: RunTime,
     lines: &CreditLines,
-    asked: &[Account],
+    asked: &[u64],
     told: Told<FinalState>,
 ) -> bool
-    ensures { result ≡ spec.is_right time.rounds time.round_ticks lines.now.seats asked.now lines.now.requests told seat.now }
+    ensures { result ≡ spec.is_right time.rounds time.round_ticks asked.now lines.now.requests told seat.now }
 {
-    let place = lines.seats.place(u64::from(seat.flow().id()), 0);
-    let units = account_in(&lines.requests.flows, place).left(time);
+    let units = account_of(&lines.requests.flows, seat.place()).left(time);
     let account = account_at(&lines.requests.ledger.accounts, seat.word());
-    is_told(
-        told,
-        account.left_of(&account_at(asked, seat.word())),
-        units,
-    )
+    is_told(told, account.left_of(bytes_at(asked, seat.word())), units)
 }
 
 /// Whether what is told is this, once.

@@ -38,11 +38,8 @@ mod told;
 // What A lines tell, and what they should.
 mod talkers;
 
-// What is kept of lines, told one after another,
+// What is kept of lines, told one after another.
 mod credit_lines;
-
-// and of those of a report.
-mod reports;
 
 // Where a flow is credited more than its bucket has,
 mod rates;
@@ -65,4 +62,3 @@ pub use credit_lines::CreditLines;
 pub use credits::credits_breach;
 pub use finals::finals_breach;
 pub use rates::rates_breach;
-pub use reports::lines_of_report;

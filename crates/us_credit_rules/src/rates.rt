@@ -6,7 +6,7 @@ ghost use Rattle.us_reports.specs.Breaches.{IsFirstBreach};
 ghost use Rattle.us_credit_rules.specs.Buckets as spec;
 ghost use Rattle.us_credit_rules.specs.CreditLines.{AreCreditLines};
 
-use crate::buckets::account_in;
+use crate::buckets::{FlowAccount, account_of};
 use crate::credit_lines::CreditLines;
 use us_flows::{Config, Flow};
 use us_reports::{Place, earlier};
@@ -18,21 +18,21 @@ pub fn rates_breach(config: &Config, lines: &CreditLines) -> Option<Place>
         IsFirstBreach config.now.channels (λ p. rates_hold (run_in config.now v) judged p ≡ true) result }
 {
     let mut first = None;
-    for flow in config.flows() {
-        first = earlier(config.channels(), first, flow_breach(lines, flow));
+    for (place, flow) in config.flows().iter().enumerate() {
+        let account = account_of(&lines.requests.flows, place);
+        first = earlier(config.channels(), first, flow_breach(flow, account));
     }
     first
 }
 
 /// Where the credits of a flow first break its rate.
-fn flow_breach(lines: &CreditLines, flow: &Flow) -> Option<Place>
-    ensures { result ≡ spec.rate_place lines.now.seats lines.now.requests.flows.items flow.now }
+fn flow_breach(flow: &Flow, account: FlowAccount) -> Option<Place>
+    ensures { result ≡ spec.rate_place flow.now account }
 {
     if flow.rate() == 0 {
         return None;
     }
-    let place = lines.seats.place(u64::from(flow.id()), 0);
-    let round = account_in(&lines.requests.flows, place).short()?;
+    let round = account.short()?;
     Some(Place {
         round: u64::from(round),
         channel: 0,

@@ -1,4 +1,4 @@
-ghost use Rattle.std.specs.Prelude.{◌≡◌, ◌*◌, ◌≤◌, ◌&&◌, ◌<◌, None, Some, not, length, replicate, slice_set, IfOk};
+ghost use Rattle.std.specs.Prelude.{◌≡◌, ◌*◌, ◌+◌, ◌≤◌, ◌&&◌, ◌<◌, None, Some, not, length, replicate, slice_set, IfOk, IfSome};
 ghost use Rattle.std.specs.Option.{option_copied};
 ghost use Rattle.us_flows.specs.Tables as tables;
 ghost use Rattle.us_flows.specs.Clusters as clusters;
@@ -6,15 +6,16 @@ ghost use Rattle.us_lawful.specs.Credits as credits;
 ghost use Rattle.us_reports.specs.Order.{earlier};
 ghost use Rattle.us_credit_rules.specs.Ends as ends;
 ghost use Rattle.us_credit_rules.specs.Repeats as spec;
+ghost use Rattle.us_credit_rules.specs.Seats.{word_in};
 
 use crate::costs::grant_cost;
-use crate::seats::{Seat, Seats};
+use crate::seats::Seat;
 use std::alloc::{AllocError, Global};
 use us_flows::Channel;
 use us_reports::{Place, earlier};
 use us_round::Grant;
 
-/// How many keys a cluster has: one for each channel id of 8 bits.
+/// How many keys a word has: one for each channel id of 8 bits.
 const KEYS: usize = 256;
 
 /// The bytes of a segment header (the standard's).
@@ -23,7 +24,7 @@ const HEADER_BYTES: u8 = 8;
 /// Which line of a request isn't right, or isn't the only one of its cluster, channel and round.
 #[derive(Drop)]
 pub(crate) struct Repeats {
-    /// The last round of a line, by cluster and channel.
+    /// The last round of a line, by word and channel.
     last: Vec<Option<u64>>,
     /// The place of the first line that isn't right.
     pub(crate) first: Option<Place>,
@@ -31,37 +32,38 @@ pub(crate) struct Repeats {
 
 impl Repeats {
     /// Before all lines.
-    pub(crate) fn new(alloc: Global, seats: &Seats) -> Result<Repeats, AllocError>
-        requires { length seats.now ≤ 65536 }
-        ensures { IfOk result (λ none. (none.last.items ≡ replicate (length seats.now * 256) None) × (none.first ≡ None)) }
+    pub(crate) fn new(alloc: Global, words: usize) -> Result<Repeats, AllocError>
+        requires { words ≤ 65536 }
+        ensures { IfOk result (λ none. (none.last.items ≡ replicate (words * 256) None) × (none.first ≡ None)) }
     {
-        let last = vec![in alloc; None; seats.all().len() * KEYS]?;
+        let last = vec![in alloc; None; words * KEYS]?;
         Ok(Repeats { last, first: None })
     }
 
-    /// A line more: it names no cluster, has another third number than 0, a SID that isn't the cluster's on the channel, no
-    /// credit or another cost than its credit's, or is like one before. The third number of a place is the id that the line
-    /// tells.
-    pub(crate) fn take(&mut self, channels: &[Channel], seats: &Seats, grant: &Grant)
-        requires { length seats.now * 256 ≤ length self.old.last.items }
-        ensures last { self.new.last.items ≡ spec.noted self.old.last.items (spec.key_of seats.now grant.now) grant.now.round }
+    /// A line more, which names this cluster, if any. It isn't right where it names none, has another third
+    /// number than 0, a SID that isn't the cluster's on the channel, no credit or another cost than its credit's, or is like
+    /// one before. The third number of a place is the id that the line tells.
+    pub(crate) fn take(&mut self, channels: &[Channel], seat: Option<&Seat>, grant: &Grant)
+        requires { IfSome seat (λ seat. seat.now.number * 256 + 256 ≤ length self.old.last.items) }
+        ensures last { self.new.last.items ≡ spec.noted self.old.last.items
+            (spec.key_for (word_in (option_copied seat.entry)) grant.now.channel) grant.now.round }
         ensures first { self.new.first ≡ earlier channels.now self.old.first
-            (spec.wrong_place channels.now seats.now self.old.last.items grant.now) }
+            (spec.wrong_place channels.now self.old.last.items grant.now (option_copied seat.entry)) }
     {
-        let told = told_again(seats, &mut self.last, grant);
-        let right = is_right(channels, seats, grant);
-        self.first = earlier(channels, self.first, wrong_place(told, right, grant));
+        let told = told_again(&mut self.last, key_of(seat, grant.channel), grant.round);
+        let right = is_right(channels, seat, grant);
+        self.first = first_wrong(channels, self.first, !told && right, grant);
     }
 }
 
-/// Whether a line of the cluster and the channel of this one was told in its round. Now one was.
-fn told_again(seats: &Seats, last: &mut [Option<u64>], grant: &Grant) -> bool
-    requires { length seats.now * 256 ≤ length last.old }
-    ensures told { result ≡ spec.is_told last.old (spec.key_of seats.now grant.now) grant.now.round }
-    ensures noted { last.new ≡ spec.noted last.old (spec.key_of seats.now grant.now) grant.now.round }
+/// Whether this is the last round of a key, if there is one. Now it is.
+fn told_again(last: &mut [Option<u64>], key: Option<usize>, round: u64) -> bool
+    requires { IfSome key (λ key. key < length last.old) }
+    ensures told { result ≡ spec.is_told last.old key round }
+    ensures noted { last.new ≡ spec.noted last.old key round }
 {
-    match key_of(seats, grant) {
-        Some(key) => note(last, key, grant.round),
+    match key {
+        Some(key) => note(last, key, round),
         None => false,
     }
 }
@@ -77,34 +79,40 @@ fn note(last: &mut [Option<u64>], key: usize, round: u64) -> bool
     told
 }
 
-/// Cluster and channel of a line as one number.
-fn key_of(seats: &Seats, grant: &Grant) -> Option<usize>
-    ensures { result ≡ spec.key_of seats.now grant.now }
+/// The word of a cluster and a channel as one number.
+fn key_of(seat: Option<&Seat>, channel: u64) -> Option<usize>
+    ensures { result ≡ spec.key_for (word_in (option_copied seat.entry)) channel }
 {
-    let place = seats.place(grant.id, grant.i)?;
-    let channel = u8::try_from(grant.channel).ok()?;
-    Some(usize::from(place) * KEYS + usize::from(channel))
+    let seat = seat?;
+    let channel = u8::try_from(channel).ok()?;
+    Some(usize::from(seat.word()) * KEYS + usize::from(channel))
 }
 
-/// The place of a line that isn't right, or like one that was told.
-fn wrong_place(told: bool, right: bool, grant: &Grant) -> Option<Place>
-    ensures { result ≡ ends.unless (not told && right) (spec.line_place grant.now) }
+/// The first place of a wrong line, with one line more, which counts only if it isn't right.
+fn first_wrong(
+    channels: &[Channel],
+    first: Option<Place>,
+    right: bool,
+    grant: &Grant,
+) -> Option<Place>
+    ensures { result ≡ earlier channels.now first (ends.unless right (spec.line_place grant.now)) }
 {
-    if right && !told {
-        return None;
+    if right {
+        return first;
     }
-    Some(Place {
+    let wrong = Place {
         round: grant.round,
         channel: grant.channel,
         third: grant.id,
-    })
+    };
+    earlier(channels, first, Some(wrong))
 }
 
 /// Whether a line is right for the cluster that it names, whatever other lines there are.
-fn is_right(channels: &[Channel], seats: &Seats, grant: &Grant) -> bool
-    ensures { result ≡ spec.is_right_line channels.now seats.now grant.now }
+fn is_right(channels: &[Channel], seat: Option<&Seat>, grant: &Grant) -> bool
+    ensures { result ≡ spec.is_right_for channels.now grant.now (option_copied seat.entry) }
 {
-    let Some(seat) = seats.find(grant.id, grant.i) else {
+    let Some(seat) = seat else {
         return false;
     };
     grant.k == 0

@@ -21,7 +21,7 @@ pub(crate) struct Requests {
     pub(crate) latest: u64,
     /// What words ask for and clusters are credited,
     pub(crate) ledger: Ledger,
-    /// what is left in the buckets of flows, by the places of their first clusters in table order,
+    /// what is left in the buckets of flows, by their places,
     pub(crate) flows: Vec<FlowAccount>,
     /// and which line isn't right.
     pub(crate) repeats: Repeats,
@@ -29,15 +29,14 @@ pub(crate) struct Requests {
 
 impl Requests {
     /// Before all lines.
-    pub(crate) fn new(alloc: Global, config: &Config, seats: &Seats) -> Result<Requests, AllocError>
-        requires { seats.now ≡ table_order config.now }
+    pub(crate) fn new(alloc: Global, config: &Config) -> Result<Requests, AllocError>
         ensures kept { IfOk result (λ none. (v : TraceAsks) → rounds_fit config.now v.rounds ≡ true →
             spec.AreRequests config.now v [] none) }
         ensures latest { IfOk result (λ none. none.latest ≡ 0) }
     {
         let ledger = Ledger::new(alloc, config.clusters())?;
-        let flows = full_flows(alloc, seats)?;
-        let repeats = Repeats::new(alloc, seats)?;
+        let flows = full_flows(alloc, config.flows())?;
+        let repeats = Repeats::new(alloc, config.clusters())?;
         Ok(Requests {
             latest: 0,
             ledger,
@@ -59,9 +58,10 @@ impl Requests {
             rounds: trace.rounds(),
             round_ticks: config.round_ticks(),
         };
-        take_credit(&mut self.flows, time, seats, grant);
-        self.ledger.take(trace, seats, grant);
-        self.repeats.take(config.channels(), seats, grant);
+        let seat = seats.find(grant.id, grant.i);
+        take_credit(&mut self.flows, time, seats.find(grant.id, 0), grant);
+        self.ledger.take(trace, seat, grant);
+        self.repeats.take(config.channels(), seat, grant);
         self.latest = grant.round;
     }
 }

@@ -58,23 +58,24 @@ impl<'a> Seats<'a> {
         &self.seats
     }
 
-    /// The place in table order of the cluster at a place of the flow with an id.
-    pub(crate) fn place(&self, id: u64, list: u64) -> Option<u16>
-        ensures { result ≡ spec.place_of id list self.now }
+    /// The cluster at a place of the flow with an id.
+    pub(crate) fn find(&self, id: u64, list: u64) -> Option<&Seat<'a>>
+        ensures { option_copied result ≡ find (spec.names id list) self.now }
     {
         let places = &self.places;
         if id >= IDS || list >= LISTS {
             return None;
         }
-        place_at(places, id * LISTS + list)
+        let place = place_at(places, id * LISTS + list)?;
+        self.seats.get(usize::from(place))
     }
 
-    /// The cluster at a place of the flow with an id.
-    pub(crate) fn find(&self, id: u64, list: u64) -> Option<&Seat<'a>>
-        ensures { option_copied result ≡ find (spec.names id list) self.now }
+    /// The word of the cluster at a place of the flow with an id.
+    pub(crate) fn word(&self, id: u64, list: u64) -> Option<usize>
+        ensures { result ≡ spec.word_of id list self.now }
     {
-        let place = self.place(id, list)?;
-        Some(&self.all()[usize::from(place)])
+        let seat = self.find(id, list)?;
+        Some(usize::from(seat.word()))
     }
 }
 
@@ -115,6 +116,13 @@ impl<'a> Seat<'a> {
         ensures { result ≡ self.now.number }
     {
         self.word
+    }
+
+    /// The place of its flow among the flows.
+    pub(crate) fn place(&self) -> usize
+        ensures { result ≡ self.now.place }
+    {
+        self.place
     }
 
     /// Its flow.
@@ -186,11 +194,8 @@ fn places_of(alloc: Global, seats: &[Seat]) -> Result<Vec<Option<u16>>, AllocErr
     ensures { IfOk result (λ places. spec.ArePlaces seats.now places.items) }
 {
     let mut places = Vec::new(alloc);
-    for (place, seat) in seats.iter().enumerate() {
-        let code = seat.code();
-        if place_at(&places, u64::from(code)).is_none() {
-            put(&mut places, code, place as u16)?;
-        }
+    for place in (0..seats.len()).rev() {
+        put(&mut places, seats[place].code(), place as u16)?;
     }
     Ok(places)
 }
@@ -223,8 +228,8 @@ fn grow(places: &mut Vec<Option<u16>>, count: usize) -> Result<(), AllocError>
         slice_index_or places.new.items code None ≡ slice_index_or places.old.items code None) }
     ensures long { OnOk result (count ≤ length places.new.items) }
 {
-    for _code in places.len()..count {
-        places.push(None)?;
+    if places.len() < count {
+        places.resize(count, None)?;
     }
     Ok(())
 }

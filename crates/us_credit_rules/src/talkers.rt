@@ -4,7 +4,6 @@ ghost use Rattle.std.specs.Option.{is_some};
 ghost use Rattle.us_flows.specs.Tables.{Tables};
 ghost use Rattle.us_requests.specs.Traces.{TraceAsks};
 ghost use Rattle.us_output.specs.declared.rows.FinalActivity.{FinalActivity};
-ghost use Rattle.us_lawful.specs.Runs.{run_in};
 ghost use Rattle.us_lawful.specs.Finals.{talking};
 ghost use Rattle.us_credit_rules.specs.Activities as spec;
 
@@ -13,9 +12,7 @@ use crate::told::Tellings;
 use std::alloc::{AllocError, Global};
 use us_activity::Activities;
 use us_flows::{Channel, Config};
-use us_requests::Trace;
 use us_round::FinalActivity;
-use us_slots::NoMemory;
 
 /// A flow that tells its activity.
 #[derive(Clone, Copy)]
@@ -26,9 +23,20 @@ pub(crate) struct Talker {
     word: u16,
 }
 
+impl Talker {
+    /// Its id.
+    pub(crate) fn id(&self) -> u16
+        ensures { result ≡ self.now.id }
+    {
+        self.id
+    }
+}
+
 /// What A lines tell of the flows that tell their activity.
 #[derive(Drop)]
 pub(crate) struct Talkers {
+    /// In table order.
+    pub(crate) all: Vec<Talker>,
     /// By ids, whether a flow is one of them.
     ids: Vec<Option<u16>>,
     /// By ids, what is told of it.
@@ -40,10 +48,10 @@ impl Talkers {
     pub(crate) fn new(alloc: Global, config: &Config) -> Result<Talkers, AllocError>
         ensures { IfOk result (λ none. (v : TraceAsks) → spec.AreTalkers config.now v [] none) }
     {
-        let talkers = talkers_of(alloc, config)?;
-        let ids = ids_of(alloc, &talkers)?;
+        let all = talkers_of(alloc, config)?;
+        let ids = ids_of(alloc, &all)?;
         let told = Tellings::new(alloc, ids.len())?;
-        Ok(Talkers { ids, told })
+        Ok(Talkers { all, ids, told })
     }
 
     /// A line more.
@@ -73,38 +81,8 @@ fn ids_of(alloc: Global, talkers: &[Talker]) -> Result<Vec<Option<u16>>, AllocEr
     Ok(ids)
 }
 
-/// The A lines that a run should end with: of each flow that tells its activity, in table order, what its last mark says.
-pub(crate) fn wanted(
-    alloc: Global,
-    config: &Config,
-    trace: &Trace,
-) -> Result<Vec<FinalActivity>, NoMemory>
-    ensures { IfOk result (λ wanted. wanted.items ≡ spec.wanted (run_in config.now trace.now)) }
-{
-    let talkers = talkers_of(alloc, config)?;
-    let activities = Activities::of(alloc, config, trace)?;
-    let lines = lines_of(alloc, &activities, trace.rounds(), &talkers)?;
-    Ok(lines)
-}
-
-/// Those of these flows, behind so many rounds.
-fn lines_of(
-    alloc: Global,
-    activities: &Activities,
-    rounds: u32,
-    talkers: &[Talker],
-) -> Result<Vec<FinalActivity>, AllocError>
-    ensures { IfOk result (λ lines. lines.items ≡ map (spec.line_of activities.now rounds) talkers.now) }
-{
-    let mut lines = Vec::new(alloc);
-    for talker in talkers {
-        lines.push(line_of(activities, rounds, talker))?;
-    }
-    Ok(lines)
-}
-
 /// The A line of a flow behind so many rounds.
-fn line_of(activities: &Activities, rounds: u32, talker: &Talker) -> FinalActivity
+pub(crate) fn line_of(activities: &Activities, rounds: u32, talker: &Talker) -> FinalActivity
     ensures { result ≡ spec.line_of activities.now rounds talker.now }
 {
     let active = activities.is_active(talker.word, u128::from(rounds));

@@ -20,7 +20,7 @@ use Rattle.us_round.proofs.ScheduleLaws.{rounds_are_numbered, schedule_is_of_beg
 use Rattle.us_round.proofs.ChannelRunLaws.{channels_stay}
 use Rattle.us_round.proofs.MapLaws.{maps_are_lawful}
 use Rattle.us_reports.specs.declared.place.Place.{Place}
-use Rattle.us_lawful.specs.declared.judged.RoundMap.{RoundMap}
+use Rattle.us_lawful.specs.Runs.{RoundMap}
 use Rattle.us_lawful.specs.Output.{output_of, round_maps, judged_of, run_of}
 use Rattle.us_lawful.specs.Headings.{Heading, null_offset, heading_told, heading_of, headings_of, HeadingsHold}
 use Rattle.us_lawful.specs.Lawful.{IsRoundMap}

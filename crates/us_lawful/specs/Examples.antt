@@ -25,8 +25,7 @@ use Rattle.us_round.specs.Rounds.{final, schedule}
 use Rattle.us_round.specs.FinalRows.{final_rows}
 use Rattle.us_round.specs.RoundExamples.{base, base_channel, base_flow, round_steps, without_flows}
 use Rattle.us_reports.specs.declared.place.Place.{Place}
-use Rattle.us_lawful.specs.declared.judged.RoundMap.{RoundMap}
-use Rattle.us_lawful.specs.Runs.{Run, Judged, run_in}
+use Rattle.us_lawful.specs.Runs.{Run, RoundMap, Judged, run_in}
 use Rattle.us_lawful.specs.Places.{places_hold}
 use Rattle.us_lawful.specs.Regions.{element_regions, regions_hold}
 use Rattle.us_lawful.specs.Credits.{credits_hold}

@@ -4,8 +4,7 @@ use Rattle.std.specs.Prelude.{◌≡◌, ℕ, List, [], ◌∷◌, map, slice_in
 use Rattle.std.proofs.Common.{subst, sym, arith}
 use Rattle.us_codec.specs.declared.heads.Head.{Head}
 use Rattle.us_codec.specs.Elements.{MapElement, null_at}
-use Rattle.us_lawful.specs.declared.judged.RoundMap.{RoundMap}
-use Rattle.us_lawful.specs.Runs.{Judged}
+use Rattle.us_lawful.specs.Runs.{RoundMap, Judged}
 use Rattle.us_lawful.specs.Headings.{heading_told, headings_of, HeadingsHold}
 use Rattle.us_lawful.specs.Examples.{at, base_map, element, ends, granted_map, quiet_map, steps, stored, told, with_maps}
 

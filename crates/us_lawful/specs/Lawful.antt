@@ -3,8 +3,7 @@ use Rattle.std.specs.Prelude.{◌≡◌, ◌^◌, ◌<◌, true}
 use Rattle.std.specs.List.{AllByRecursion}
 use Rattle.us_codec.specs.Bodies.{IsMapBody}
 use Rattle.us_reports.specs.declared.place.Place.{Place}
-use Rattle.us_lawful.specs.declared.judged.RoundMap.{RoundMap}
-use Rattle.us_lawful.specs.Runs.{Run, Judged}
+use Rattle.us_lawful.specs.Runs.{Run, RoundMap, Judged}
 use Rattle.us_lawful.specs.Headings.{HeadingsHold}
 use Rattle.us_lawful.specs.Places.{places_hold}
 use Rattle.us_lawful.specs.Regions.{regions_hold}

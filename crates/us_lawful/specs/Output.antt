@@ -9,8 +9,7 @@ use Rattle.us_round.specs.FinalRows.{final_rows}
 use Rattle.us_output.specs.declared.rows.Row.{Row}
 use Rattle.us_output.specs.declared.rows.Row.TheVariants as rows
 use Rattle.us_output.specs.Files.{records, round_lines, lines}
-use Rattle.us_lawful.specs.declared.judged.RoundMap.{RoundMap}
-use Rattle.us_lawful.specs.Runs.{Run, Judged, counts_told}
+use Rattle.us_lawful.specs.Runs.{Run, RoundMap, Judged, counts_told}
 
 -- the U line
 abbrev pub counts_row : Counts → Row

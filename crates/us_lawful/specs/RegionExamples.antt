@@ -5,8 +5,7 @@ use Rattle.us_flows.specs.declared.channels.Channel.{Channel}
 use Rattle.us_output.specs.declared.rows.Grant.{Grant}
 use Rattle.us_output.specs.declared.rows.Row.TheVariants as rows
 use Rattle.us_round.specs.RoundExamples.{base, base_channel}
-use Rattle.us_lawful.specs.declared.judged.RoundMap.{RoundMap}
-use Rattle.us_lawful.specs.Runs.{Run, Judged}
+use Rattle.us_lawful.specs.Runs.{Run, RoundMap, Judged}
 use Rattle.us_lawful.specs.Regions.{regions_hold}
 use Rattle.us_lawful.specs.Examples.{at, base_map, element, ends, granted_map, quiet_map, steps, stored, stored_grant, told, with_grants, with_lines, with_maps}
 

@@ -11,8 +11,7 @@ use Rattle.us_channel.specs.Maps.{gap}
 use Rattle.us_output.specs.declared.rows.Grant.{Grant}
 use Rattle.us_output.specs.declared.rows.Row.{Row}
 use Rattle.us_reports.specs.declared.place.Place.{Place}
-use Rattle.us_lawful.specs.declared.judged.RoundMap.{RoundMap}
-use Rattle.us_lawful.specs.Runs.{Run, Judged, grants_in}
+use Rattle.us_lawful.specs.Runs.{Run, RoundMap, Judged, grants_in}
 
 -- Minislots side by side with one owner: from the start of a MAP, so many, a SID and an IUC.
 pub record Region : Type 0 where

@@ -1,5 +1,6 @@
 -- What a run is judged by, and what is judged (ours).
 use Rattle.std.specs.Prelude.{ℕ, List, filter, filter_map, Option, Some, None}
+use Rattle.us_codec.specs.Bodies.{MapBody}
 use Rattle.us_flows.specs.Tables.{Tables}
 use Rattle.us_requests.specs.declared.asks.Counts.{Counts}
 use Rattle.us_requests.specs.Traces.{TraceAsks, cuts_in}
@@ -10,7 +11,6 @@ use Rattle.us_output.specs.declared.rows.Row.{Row}
 use Rattle.us_output.specs.declared.rows.Row.TheVariants as rows
 use Rattle.us_output.specs.declared.rows.TraceCounts.{TraceCounts}
 use Rattle.us_reports.specs.Rows.{is_requested}
-use Rattle.us_lawful.specs.declared.judged.RoundMap.{RoundMap}
 
 -- a run: its tables, the number of its rounds, what each round cuts, in bytes by word, and how many rows of the trace are
 -- neither requests nor marks
@@ -24,7 +24,12 @@ pub record Run : Type 0 where
 abbrev pub run_in : Tables → TraceAsks → Run
 run_in t v = record { tables = t; rounds = v.rounds; cuts = cuts_in t v; counts = v.counts }
 
--- what is judged: MAPs and lines
+-- a MAP, and the round that it is for
+pub record RoundMap : Type 0 where
+  pub round : ℕ
+  pub body : MapBody
+
+-- what is judged: MAPs and lines, each in the order of its file
 pub record Judged : Type 0 where
   pub maps : List RoundMap
   pub lines : List Row

@@ -4,8 +4,7 @@ use Rattle.std.specs.List.{AllByRecursion}
 use Rattle.us_codec.specs.Bodies.{spelling}
 use Rattle.us_codec.specs.MapsFiles.{Piece, maps_file}
 use Rattle.us_output.specs.Files.{lines}
-use Rattle.us_lawful.specs.declared.judged.RoundMap.{RoundMap}
-use Rattle.us_lawful.specs.Runs.{Run, Judged}
+use Rattle.us_lawful.specs.Runs.{Run, RoundMap, Judged}
 use Rattle.us_reports.specs.Rows.{IsRow}
 use Rattle.us_lawful.specs.Lawful.{IsLawful}
 

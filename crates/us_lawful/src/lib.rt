@@ -4,13 +4,9 @@
 //! stands in `specs/`, in the order of its `Lib.antt`; `us_check` judges by them.
 #![tactic(auto)]
 
-// What is judged.
-mod judged;
-
 // Laws of the rules, and of reports.
 mod laws;
 
-pub use judged::{Judged, RoundMap};
 pub use laws::{
     lines_have_fields, ordered_assignments_hold, reports_read_back, schedules_are_lawful,
     texts_of_schedules_are_lawful, texts_of_traces_are_lawful,

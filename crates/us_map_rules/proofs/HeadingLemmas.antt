@@ -9,15 +9,14 @@ use Rattle.std.proofs.lemmas.List.{length-append, length-map, map-append}
 use Rattle.std.proofs.lemmas.Option.{slice_get_past, slice_get-map, slice_get-get_or}
 use Rattle.us_codec.specs.MapsFiles.{record_bytes}
 use Rattle.us_flows.specs.declared.channels.Channel.{Channel}
-use Rattle.us_lawful.specs.declared.judged.RoundMap.{RoundMap}
 use Rattle.us_reports.specs.declared.place.Place.{Place}
 use Rattle.us_lawful.specs.Lawful.{IsRoundMap}
 use Rattle.us_lawful.specs.Texts.{record_of}
-use Rattle.us_lawful.specs.Runs.{Run, Judged}
+use Rattle.us_lawful.specs.Runs.{Run, RoundMap, Judged}
 use Rattle.us_lawful.specs.Headings.{Heading, heading_told, heading_of, headings_of, HeadingsHold}
 use Rattle.us_reports.specs.Order.{goes_before}
 use Rattle.us_reports.specs.Breaches.{IsFirstBreach}
-use Rattle.us_map_rules.specs.MapsReading.{Answers, BeginsNoRecord, IsFirstBadRecord}
+use Rattle.us_map_rules.specs.MapsReading.{Answers}
 use Rattle.us_map_rules.specs.Headings.{IsOtherWith}
 use Rattle.us_map_rules.proofs.MapsLemmas.{Read, read_all, read_more, read_nothing}
 
@@ -155,7 +154,7 @@ agree_on : (run : Run) (maps : List RoundMap) (m : RoundMap) (n : ℕ) → n ≤
 agree_on run maps m n within agree i less = told_front maps m i (omega (arith, less, within)) ∙ agree i less
 
 other_next : (run : Run) (maps : List RoundMap) (m : RoundMap) (known next : Option ℕ) →
-    IsOtherWith run (length maps) m known next → IsFirstOther run maps known → IsFirstOther run (maps ++ m ∷ []) next
+    IsOtherWith run (length maps) (heading_told m) known next → IsFirstOther run maps known → IsFirstOther run (maps ++ m ∷ []) next
 other_next run maps m (Some n) next same before =
     subst (IsFirstOther run (maps ++ m ∷ [])) (sym same) (
       omega (arith, before.0, length-append maps (m ∷ [])),
@@ -191,14 +190,14 @@ walked_nothing run bytes = record {
 }
 
 pub walked_on : (run : Run) (bytes rest behind : List ℕ) (number : ℕ) (m : RoundMap) (known next : Option ℕ) →
-    IsRoundMap m → rest ≡ record_bytes (record_of m) ++ behind → IsOtherWith run number m known next →
+    IsRoundMap m → rest ≡ record_bytes (record_of m) ++ behind → IsOtherWith run number (heading_told m) known next →
     Walked run bytes rest number known → Walked run bytes behind (number + 1) next
 walked_on run bytes rest behind number m known next is begins with walked = record {
   done = walked.done ++ m ∷ [];
   read = read_more bytes rest behind walked.done m walked.read is begins;
   count = omega (arith, length-append walked.done (m ∷ []), walked.count);
   judged = other_next run walked.done m known next
-      (subst (λ n. IsOtherWith run n m known next) (sym walked.count) with) walked.judged;
+      (subst (λ n. IsOtherWith run n (heading_told m) known next) (sym walked.count) with) walked.judged;
 }
 
 -- The first breach.

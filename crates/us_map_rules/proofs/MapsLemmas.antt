@@ -7,7 +7,7 @@ use Rattle.us_codec.specs.Bodies.{MapBody}
 use Rattle.us_codec.specs.MapsFiles.{Piece, record_bytes, maps_file}
 use Rattle.us_codec.proofs.ReadingLaws.{one_spelling}
 use Rattle.us_output.proofs.PartLemmas.{all_append}
-use Rattle.us_lawful.specs.declared.judged.RoundMap.{RoundMap}
+use Rattle.us_lawful.specs.Runs.{RoundMap}
 use Rattle.us_lawful.specs.Lawful.{IsRoundMap}
 use Rattle.us_lawful.specs.Texts.{record_of}
 use Rattle.us_map_rules.specs.MapsReading.{IsMapsOf, BeginsNoRecord, OneReadingOfMaps}

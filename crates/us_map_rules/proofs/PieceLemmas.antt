@@ -1,16 +1,15 @@
 -- The elements of a MAP: that they stand side by side, and how they are read where they stand.
-use Rattle.std.proofs.Common.{◌≡◌, ◌≢◌, ◌↔◌, ℕ, ◌-◌, ◌<◌, ◌≤◌, List, [], ◌∷◌, ◌++◌, map, length, get_or, drop, slice_get, refl, sym, ap, ◌∙◌, subst, append_assoc, append-nil, length-append, length-drop, arith, inl, inr}
-use Rattle.std.specs.Int.{from_be_bytes, w32}
+use Rattle.std.proofs.Common.{◌≡◌, ◌≢◌, ◌↔◌, false, ℕ, ◌-◌, ◌<◌, ◌≤◌, List, [], ◌∷◌, ◌++◌, map, length, drop, slice_get, refl, sym, ap, ◌∙◌, subst, append_assoc, append-nil, length-append, arith, inl, inr}
 use Rattle.std.specs.List.{AllByRecursion}
-use Rattle.std.proofs.lemmas.Bool.{cases_eq, cases_lt, eq-eqb, ne_eqb}
-use Rattle.std.proofs.lemmas.List.{drop_at}
+use Rattle.std.proofs.lemmas.Bool.{cases_Bool, eq-eqb, eqb-false, eqb-true, ne_eqb}
+use Rattle.std.proofs.lemmas.List.{drop_all, drop_at}
 use Rattle.us_slots.specs.UsageCodes as codes
-use Rattle.us_codec.specs.Elements.{MapElement, element_of, null_at}
+use Rattle.us_codec.specs.Elements.{MapElement, null_at}
 use Rattle.us_codec.specs.Bodies.{MapBody, IsMapBody, IsRising, StartsAtZero, element_bytes, front, spelling}
-use Rattle.us_codec.specs.Faults.{elements_at}
+use Rattle.us_codec.specs.Faults.{elements_at, ends_list}
 use Rattle.us_codec.specs.MapsFiles.{Piece, IsPiece, maps_file, record_bytes}
 use Rattle.us_codec.proofs.WordLemmas.{elements-of-element_bytes}
-use Rattle.us_lawful.specs.declared.judged.RoundMap.{RoundMap}
+use Rattle.us_lawful.specs.Runs.{RoundMap}
 use Rattle.us_lawful.specs.Regions.{Region, element_regions, map_regions, end_of}
 use Rattle.us_lawful.specs.Texts.{record_of}
 use Rattle.us_map_rules.specs.MapsReading.{BeginsNoPiece, IsMapsOf}
@@ -93,72 +92,54 @@ read_all pieces end rest all none read side =
     let over : rest ≡ [] = none ((read.side rest).1 (subst (AreSideBySide 0) (sym read.read) side)) in
     sym (append-nil pieces) ∙ ap (λ ps. pieces ++ ps) (sym over) ∙ read.read
 
--- Elements as bytes.
+-- An element and those behind it: the next one is reached, or there is none.
 
--- none, of too few bytes,
-pub none_at : (bytes : List ℕ) → length bytes < 4 → elements_at bytes ≡ []
-unfolding elements_at
-none_at [] short = refl
-none_at (a ∷ []) short = refl
-none_at (a ∷ b ∷ []) short = refl
-none_at (a ∷ b ∷ c ∷ []) short = refl
-none_at (a ∷ b ∷ c ∷ d ∷ more) short = absurd (omega (arith, short))
+pub next_of : (e next : MapElement) (all more : List MapElement) → all ≡ next ∷ more → ends_list e ≡ false →
+    element_regions (e ∷ all) ≡ piece_of e next ∷ element_regions (next ∷ more)
+next_of e next all more is goes_on = ap (λ es. element_regions (e ∷ es)) is ∙ one_piece e next more (eqb-false e.iuc codes.null goes_on)
 
--- or the first, and those behind it
-abbrev pub first_word : List ℕ → ℕ
-first_word bytes = from_be_bytes w32 (get_or bytes 0 0 ∷ get_or bytes 1 0 ∷ get_or bytes 2 0 ∷ get_or bytes 3 0 ∷ [])
+pub none_of : (e : MapElement) (all : List MapElement) → all ≡ [] → element_regions (e ∷ all) ≡ []
+none_of e all none = ap (λ es. element_regions (e ∷ es)) none ∙ few_pieces (e ∷ []) (omega arith)
 
-pub one_at : (bytes : List ℕ) → 4 ≤ length bytes → elements_at bytes ≡ element_of (first_word bytes) ∷ elements_at (drop 4 bytes)
-unfolding elements_at
-one_at [] long = absurd (omega (arith, long))
-one_at (a ∷ []) long = absurd (omega (arith, long))
-one_at (a ∷ b ∷ []) long = absurd (omega (arith, long))
-one_at (a ∷ b ∷ c ∷ []) long = absurd (omega (arith, long))
-one_at (a ∷ b ∷ c ∷ d ∷ more) long = refl
-
--- no region, of too few elements,
-pub none_of : (bytes : List ℕ) → length bytes < 8 → element_regions (elements_at bytes) ≡ []
-none_of bytes short = elim (cases_lt (length bytes) 4) [
-  | inl few ↦ ap element_regions (none_at bytes few) ∙ few_pieces [] (omega arith)
-  | inr one ↦ ap element_regions (one_at bytes one
-      ∙ ap (λ es. element_of (first_word bytes) ∷ es) (none_at (drop 4 bytes) (omega (arith, short, length-drop 4 bytes))))
-      ∙ few_pieces (element_of (first_word bytes) ∷ []) (omega arith)
+pub not_next : (e next : MapElement) (all more : List MapElement) → all ≡ next ∷ more →
+    ((ends_list e ≡ false) × (e.offset < next.offset) → ⊥) →
+    AreSideBySide e.offset (element_regions (e ∷ all)) → element_regions (e ∷ all) ≡ []
+not_next e next all more is never side = elim (cases_Bool (ends_list e)) [
+  | inl ends ↦ null_piece e all (eqb-true e.iuc codes.null ends)
+  | inr on ↦
+      let stands = subst (AreSideBySide e.offset) (next_of e next all more is on) side in
+      absurd (never (on, omega (arith, stands.1)))
 ]
 
--- or the first, if it isn't the Null
-module _ (bytes behind : List ℕ) (long : 4 ≤ length behind) (is : behind ≡ drop 4 bytes) where
-  two_at : elements_at bytes ≡ element_of (first_word bytes) ∷ element_of (first_word behind) ∷ elements_at (drop 4 behind)
-  two_at =
-      one_at bytes (omega (arith, long, ap length is, length-drop 4 bytes))
-      ∙ ap (λ es. element_of (first_word bytes) ∷ es) (ap (λ bs. elements_at bs) (sym is) ∙ one_at behind long)
+-- Those of no bytes, and those that begin behind the start of the MAP
 
-  abbrev first : Region
-  first = piece_of (element_of (first_word bytes)) (element_of (first_word behind))
+pub none_at : (all : List MapElement) → all ≡ [] → element_regions all ≡ []
+unfolding element_regions
+none_at all none = rw none refl
 
-  pub first_of : (element_of (first_word bytes)).iuc ≢ codes.null →
-      element_regions (elements_at bytes) ≡ first ∷ element_regions (elements_at behind)
-  first_of other =
-      ap element_regions two_at
-      ∙ one_piece (element_of (first_word bytes)) (element_of (first_word behind)) (elements_at (drop 4 behind)) other
-      ∙ ap (λ es. first ∷ element_regions es) (sym (one_at behind long))
+pub none_short : (body : List ℕ) → length body < 16 → element_regions (elements_at (drop 16 body)) ≡ []
+unfolding elements_at element_regions
+none_short body short = rw (drop_all 16 body (omega (arith, short))) refl
 
-  pub none_next : (from : ℕ) →
-      ((first.iuc ≢ codes.null) × (first.start ≡ from) × (0 < first.slots) → ⊥) →
-      AreSideBySide from (element_regions (elements_at bytes)) → element_regions (elements_at bytes) ≡ []
-  none_next from never side = elim (cases_eq (element_of (first_word bytes)).iuc codes.null) [
-    | inl null ↦ ap element_regions two_at
-        ∙ null_piece (element_of (first_word bytes)) (element_of (first_word behind) ∷ elements_at (drop 4 behind)) null
-    | inr other ↦
-        let stands = subst (AreSideBySide from) (first_of other) side in
-        absurd (never (other, stands.0, stands.1))
-  ]
+pub none_at_start : (all behind : List MapElement) (e : MapElement) → all ≡ e ∷ behind → 0 < e.offset →
+    AreSideBySide 0 (element_regions all) → element_regions all ≡ []
+none_at_start all behind e is late side = by behind is
+  where
+    by : (behind : List MapElement) → all ≡ e ∷ behind → element_regions all ≡ []
+    by [] is = ap element_regions is ∙ none_of e [] refl
+    by (next ∷ more) is = elim (cases_Bool (ends_list e)) [
+      | inl ends ↦ ap element_regions is ∙ null_piece e (next ∷ more) (eqb-true e.iuc codes.null ends)
+      | inr on ↦
+          let stands = subst (AreSideBySide 0) (ap element_regions is ∙ next_of e next (next ∷ more) more refl on) side in
+          absurd (omega (arith, late, stands.0))
+    ]
 
 -- those of a body
 length_front : (m : MapBody) (count : ℕ) → IsMapBody m → length (front m.head count) ≡ 16
 unfolding front
 length_front m count is = omega (arith, is.head.four)
 
-elements_of_body : (m : MapBody) → IsMapBody m → elements_at (drop 16 (spelling m)) ≡ m.elements
+pub elements_of_body : (m : MapBody) → IsMapBody m → elements_at (drop 16 (spelling m)) ≡ m.elements
 unfolding spelling
 elements_of_body m is =
     ap (λ bytes. elements_at bytes)

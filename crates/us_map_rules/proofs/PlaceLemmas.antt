@@ -16,10 +16,10 @@ use Rattle.us_map_rules.specs.LackedPlaces.{place_told, IsOfLackedPlace}
 -- A line.
 
 -- what a line tells
-abbrev place : ℕ → ℕ → Place
+abbrev pub place : ℕ → ℕ → Place
 place round channel = record { round = round; channel = channel; third = 0 }
 
-same_place : (round channel : ℕ) (p : Place) → ◌≡◌ {A = Option Place} (Some (place round channel)) (Some p) →
+pub same_place : (round channel : ℕ) (p : Place) → ◌≡◌ {A = Option Place} (Some (place round channel)) (Some p) →
     place round channel ≡ p
 same_place round channel p same = cc
 

@@ -1,14 +1,16 @@
 -- Records of a maps file: what bytes begin with, and that they begin with nothing else.
-use Rattle.std.proofs.Common.{◌≡◌, ℕ, ◌+◌, ◌-◌, ◌^◌, ◌<◌, ◌≤◌, zero, suc, List, [], ◌∷◌, ◌++◌, length, take, drop, get_or, refl, sym, ap, ap₂, ◌∙◌, arith}
+use Rattle.std.proofs.Common.{◌≡◌, ℕ, ◌+◌, ◌-◌, ◌^◌, ◌<◌, ◌≤◌, zero, suc, List, [], ◌∷◌, ◌++◌, length, take, drop, get_or, Option, Some, refl, sym, ap, ap₂, ◌∙◌, arith}
 use Rattle.std.specs.Int.{to_be_bytes, from_be_bytes, w16, w32}
 use Rattle.std.proofs.lemmas.Nat.{be_bytes_2, from_be_bytes-to_be_bytes_2, from_be_bytes-to_be_bytes_4}
 use Rattle.std.proofs.lemmas.List.{length-append, length-take, length-drop, length-take-le, take_all, take-append-drop, take_at, drop_at}
+use Rattle.us_codec.specs.declared.heads.Head.{Head}
 use Rattle.us_codec.specs.Bodies.{MapBody, SpellsMap}
 use Rattle.us_codec.specs.MapsFiles.{Piece, IsPiece, record_bytes}
 use Rattle.us_codec.proofs.WordLemmas.{AreBytes, four-bytes}
 use Rattle.us_codec.proofs.FileLemmas.{stated, round_at}
 use Rattle.us_codec.proofs.PutLemmas.{length-spelling}
-use Rattle.us_lawful.specs.declared.judged.RoundMap.{RoundMap}
+use Rattle.us_lawful.specs.Runs.{RoundMap}
+use Rattle.us_lawful.specs.Headings.{Heading, heading_told, null_offset}
 use Rattle.us_lawful.specs.Lawful.{IsRoundMap}
 use Rattle.us_lawful.specs.Texts.{record_of}
 use Rattle.us_map_rules.specs.MapsReading.{BeginsNoPiece, BeginsNoRecord}
@@ -50,7 +52,7 @@ piece_found (a ∷ []) are long enough = absurd (omega arith)
 piece_found [] are long enough = absurd (omega arith)
 
 -- what bytes spell has no more than theirs
-four_fit : (a b c d : ℕ) → a < 256 → b < 256 → c < 256 → d < 256 → from_be_bytes w32 (a ∷ b ∷ c ∷ d ∷ []) < 2 ^ 32
+pub four_fit : (a b c d : ℕ) → a < 256 → b < 256 → c < 256 → d < 256 → from_be_bytes w32 (a ∷ b ∷ c ∷ d ∷ []) < 2 ^ 32
 four_fit a b c d small_a small_b small_c small_d = omega arith
 
 two_fit : (e f : ℕ) → e < 256 → f < 256 → from_be_bytes w16 (e ∷ f ∷ []) < 2 ^ 16
@@ -130,7 +132,26 @@ record_is_piece m is = record {
 pub no_record : (bytes : List ℕ) → BeginsNoPiece bytes → BeginsNoRecord bytes
 no_record bytes none = λ m more is. none (record_of m) more (record_is_piece m is)
 
--- and so they do where what the record has is the body of none
+-- and that of this one where what it has is its body
+pub map_told : (bytes : List ℕ) (p : Piece) (behind : List ℕ) (head : Head) (len : ℕ) → IsPiece p →
+    bytes ≡ record_bytes p ++ behind →
+    (m : MapBody) × SpellsMap p.body m × (m.head ≡ head) × (null_offset m.elements ≡ Some len) →
+    (m : RoundMap) × IsRoundMap m × (bytes ≡ record_bytes (record_of m) ++ behind)
+    × (heading_told m ≡ record { round = p.round; head = head; len = Some len })
+map_told bytes p behind head len is spelled told = (
+  record { round = p.round; body = told.0 },
+  record { round = is.round; body = told.1.lawful },
+  spelled ∙ ap (λ b. record_bytes (piece p.round b) ++ behind) told.1.spelled,
+  ap (λ h. heading h (null_offset told.0.elements)) told.2 ∙ ap (heading head) told.3,
+)
+  where
+    piece : ℕ → List ℕ → Piece
+    piece round body = record { round = round; body = body }
+
+    heading : Head → Option ℕ → Heading
+    heading head len = record { round = p.round; head = head; len = len }
+
+-- but where it has the body of none, of no MAP either
 pub no_body : (bytes : List ℕ) (p : Piece) (behind : List ℕ) → IsPiece p → bytes ≡ record_bytes p ++ behind →
     ((m : MapBody) → SpellsMap p.body m → ⊥) → BeginsNoRecord bytes
 no_body bytes p behind of_p spelled none = λ m more is same.

@@ -1,11 +1,9 @@
 -- The rule of minislots is what it is by the numbers of MAPs, and so is its first breach.
-use Rattle.std.proofs.Common.{◌≡◌, ℕ, zero, suc, ◌+◌, ◌*◌, ◌%◌, ◌<◌, ◌==◌, ◌⊎◌, Bool, true, false, List, [], ◌∷◌, ◌++◌, length, map, get_or, Option, Some, None, slice_get, option_map, IsPermutation, append-nil, refl, sym, ap, ◌∙◌, subst, arith, inl, inr, mul-le-mul_right}
-use Rattle.std.specs.Prelude.{filter, filter_map, nat_lt, not, option_to_list, sum_by, ◌&&◌, ◌||◌}
-use Rattle.std.specs.List.{AllByRecursion}
+use Rattle.std.proofs.Common.{◌≡◌, ℕ, ◌+◌, ◌*◌, ◌%◌, ◌<◌, ◌==◌, ◌⊎◌, Bool, true, false, List, [], ◌∷◌, ◌++◌, length, get_or, Option, Some, None, slice_get, option_map, append-nil, refl, sym, ap, ◌∙◌, subst, arith, inl, inr, mul-le-mul_right}
+use Rattle.std.specs.Prelude.{nat_lt, not, option_to_list, ◌&&◌, ◌||◌}
 use Rattle.std.proofs.Math.Nat.{mod-lt}
 use Rattle.std.proofs.lemmas.Bool.{false≢true, cases_Bool, cases_eq, cases_lt, and_from, eq-eqb, eqb-false, eqb-true, le-ltb, lt-ltb, ltb-true, ne_eqb, or_left}
 use Rattle.std.proofs.lemmas.List.Elements.{filter_map-append}
-use Rattle.std.proofs.lemmas.List.Sorted.{IsPermutation-append_left}
 use Rattle.std.proofs.lemmas.Nat.{div-add-mod', div-mul-add, mod-mul-add}
 use Rattle.us_flows.specs.declared.channels.Channel.{Channel}
 use Rattle.us_flows.specs.Tables.{Tables, channel_with, map_len}
@@ -14,75 +12,37 @@ use Rattle.us_requests.specs.Traces.{TraceAsks}
 use Rattle.us_output.specs.declared.rows.Grant.{Grant}
 use Rattle.us_output.specs.declared.rows.Row.{Row}
 use Rattle.us_output.specs.declared.rows.Row.TheVariants as rows
-use Rattle.us_lawful.specs.Runs.{Judged, Run, run_in}
+use Rattle.us_lawful.specs.Runs.{RoundMap, Judged, Run, run_in}
 use Rattle.us_reports.specs.declared.place.Place.{Place}
-use Rattle.us_lawful.specs.declared.judged.RoundMap.{RoundMap}
 use Rattle.us_lawful.specs.Regions.{Region, channel_holds, grant_regions, map_regions, minislot_holds, region_of, regions_hold, reserve_regions, told_regions}
-use Rattle.us_lawful.proofs.ItemLemmas.{moved_all}
-use Rattle.us_lawful.proofs.RegionLemmas.{moved_holds}
-use Rattle.us_lawful.proofs.SameLemmas.{Same, same_append, same_filter, same_map, same_moved}
 use Rattle.us_reports.specs.Order.{goes_before, place_of, rank_goes_before, rank_of}
 use Rattle.us_reports.specs.Breaches.{IsFirstBreach}
 use Rattle.us_map_rules.specs.declared.gathered.MapRegions.{MapRegions}
-use Rattle.us_map_rules.specs.declared.region_lines.PlacedRegion.{PlacedRegion}
-use Rattle.us_map_rules.specs.RegionLines.{map_number, placed_line}
+use Rattle.us_map_rules.specs.RegionLines.{PlacedRegion, map_at, map_number, placed_line, placed_lines}
 use Rattle.us_map_rules.specs.Gathered as told
 use Rattle.us_map_rules.specs.Gathered.{AreGathered, AreTold, IsFirstBefore, IsPlaceIn, IsStateOf, lines_of, map_holds}
 use Rattle.us_map_rules.proofs.TableLemmas.{below_number, found_channel, lacks, none_is_zero, number_parts, place_found, place_here, place_inside}
 use Rattle.us_map_rules.proofs.ToldLemmas.{one_told}
 
--- Lines of MAPs of the run.
+-- MAPs of the run.
 
--- a line is of one of these,
-pub placed_inside : (t : Tables) (rounds : ℕ) (line : Row) (q : PlacedRegion) → placed_line t rounds line ≡ Some q →
-    q.map < rounds * length t.channels
-placed_inside t rounds (rows.Granted g) q is = elim (cases_lt g.round rounds) [
-  | inl low ↦ by low (place_of t.channels g.channel) refl (rw (lt-ltb g.round rounds low) at is)
+-- that of a round and a channel is one of these
+pub map_inside : (t : Tables) (rounds round channel number : ℕ) → map_at t rounds round channel ≡ Some number →
+    number < rounds * length t.channels
+map_inside t rounds round channel number is = elim (cases_lt round rounds) [
+  | inl low ↦ by low (place_of t.channels channel) refl (rw (lt-ltb round rounds low) at is)
   | inr over ↦
-      let never : None ≡ Some q = rw (le-ltb g.round rounds over) at is in
+      let never : None ≡ Some number = rw (le-ltb round rounds over) at is in
       absurd (cc never)
 ]
   where
-    by : g.round < rounds → (o : Option ℕ) → place_of t.channels g.channel ≡ o →
-        option_map (λ place. record { map = map_number t g.round place; region = region_of g }) o ≡ Some q →
-        q.map < rounds * length t.channels
+    by : round < rounds → (o : Option ℕ) → place_of t.channels channel ≡ o →
+        option_map (map_number t round) o ≡ Some number → number < rounds * length t.channels
     by low None none found = absurd (cc found)
     by low (Some z) there found =
-        let number : map_number t g.round z ≡ q.map = cc in
-        subst (λ m. m < rounds * length t.channels) number
-        (below_number (length t.channels) g.round z rounds (place_inside t.channels g.channel z there) low)
-placed_inside t rounds (rows.Missed m) q is = absurd (cc is)
-placed_inside t rounds (rows.Final s) q is = absurd (cc is)
-placed_inside t rounds (rows.Activity a) q is = absurd (cc is)
-placed_inside t rounds (rows.Counts n) q is = absurd (cc is)
-
-with_inside : (t : Tables) (rounds : ℕ) (line : Row) (lines : List Row) (o : Option PlacedRegion) →
-    placed_line t rounds line ≡ o →
-    AllByRecursion (λ q. q.map < rounds * length t.channels) (filter_map (placed_line t rounds) lines) →
-    AllByRecursion (λ q. q.map < rounds * length t.channels) (filter_map (placed_line t rounds) (line ∷ lines))
-with_inside t rounds line lines None is all = rw is all
-with_inside t rounds line lines (Some q) is all = rw is (placed_inside t rounds line q is, all)
-
-all_inside : (t : Tables) (rounds : ℕ) (lines : List Row) →
-    AllByRecursion (λ q. q.map < rounds * length t.channels) (filter_map (placed_line t rounds) lines)
-all_inside t rounds [] = tt
-all_inside t rounds (line ∷ lines) =
-    with_inside t rounds line lines (placed_line t rounds line) refl (all_inside t rounds lines)
-
-all_at : {X : Type 0} (P : X → Type 0) (xs : List X) (i : ℕ) (d : X) → i < length xs → AllByRecursion P xs →
-    P (get_or xs i d)
-all_at P [] i d inside all = absurd (omega (arith, inside))
-all_at P (x ∷ xs) zero d inside all = all.0
-all_at P (x ∷ xs) (suc i) d inside all = all_at P xs i d (omega (arith, inside)) all.1
-
--- in whatever order they stand
-pub moved_inside : (t : Tables) (rounds : ℕ) (lines : List Row) (placed : List PlacedRegion) (i : ℕ) (d : PlacedRegion) →
-    IsPermutation (filter_map (placed_line t rounds) lines) placed → i < length placed →
-    (get_or placed i d).map < rounds * length t.channels
-moved_inside t rounds lines placed i d moved inside =
-    all_at (λ q. q.map < rounds * length t.channels) placed i d inside
-    (moved_all (λ q. q.map < rounds * length t.channels) (filter_map (placed_line t rounds) lines) placed moved
-    (all_inside t rounds lines))
+        let same : map_number t round z ≡ number = cc in
+        subst (λ m. m < rounds * length t.channels) same
+        (below_number (length t.channels) round z rounds (place_inside t.channels channel z there) low)
 
 -- Lines of one MAP.
 
@@ -109,7 +69,7 @@ module _ (t : Tables) (rounds round y : ℕ) (c : Channel) (inside : round < rou
   ]
 
   of_table : (g : Grant) (place : Option ℕ) → place_of t.channels g.channel ≡ place →
-      IsPlaced g (option_map (λ place. record { map = map_number t g.round place; region = region_of g }) place)
+      IsPlaced g (option_map (λ m. record { map = m; region = region_of g }) (option_map (map_number t g.round) place))
   unfolding is_of
   of_table g None none = other g (λ is.
       let never : None ≡ Some y = sym none ∙ ap (place_of t.channels) is.1 ∙ here in absurd (cc never))
@@ -142,7 +102,7 @@ module _ (t : Tables) (rounds round y : ℕ) (c : Channel) (inside : round < rou
 
   -- the minislots of lines of this MAP
   abbrev pub of_lines : List Row → List Region
-  of_lines lines = lines_of number (filter_map (placed_line t rounds) lines)
+  of_lines lines = lines_of number (placed_lines t rounds lines)
 
   with_line : (g : Grant) (lines : List Row) (q : Option PlacedRegion) → placed_line t rounds (rows.Granted g) ≡ q → IsPlaced g q →
       grant_regions round c.id lines ≡ of_lines lines →
@@ -164,27 +124,9 @@ module _ (t : Tables) (rounds round y : ℕ) (c : Channel) (inside : round < rou
   grants_told (rows.Activity a ∷ lines) = grants_told lines
   grants_told (rows.Counts n ∷ lines) = grants_told lines
 
--- Places.
-
--- of the regions that must be in a MAP
-regions_told : (t : Tables) (rounds round y : ℕ) (c : Channel) (lines : List Row) (placed : List PlacedRegion) →
-    round < rounds → place_of t.channels c.id ≡ Some y →
-    IsPermutation (filter_map (placed_line t rounds) lines) placed →
-    Same (reserve_regions t round c ++ grant_regions round c.id lines)
-    (reserve_regions t round c ++ lines_of (map_number t round y) placed)
-regions_told t rounds round y c lines placed inside here moved =
-    let all : List PlacedRegion = filter_map (placed_line t rounds) lines in
-    let passes : PlacedRegion → Bool = λ q. q.map == map_number t round y in
-    same_append (reserve_regions t round c) (reserve_regions t round c) (grant_regions round c.id lines)
-    (map (λ q. q.region) (filter passes placed)) (λ f. refl)
-    (λ f. ap (sum_by f) (grants_told t rounds round y c inside here lines)
-    ∙ same_map (λ q. q.region) (filter passes all) (filter passes placed)
-    (same_filter passes all placed (same_moved all placed moved)) f)
-
 -- By the number of a MAP.
 
-module _ (t : Tables) (v : TraceAsks) (judged : Judged) (placed : List PlacedRegion)
-    (moved : IsPermutation (filter_map (placed_line t v.rounds) judged.lines) placed) (p : Place) where
+module _ (t : Tables) (v : TraceAsks) (judged : Judged) (p : Place) where
   of_channel : p.round < v.rounds → (o : Option Channel) → channel_with t.channels p.channel ≡ o →
       regions_hold (run_in t v) judged p ≡ channel_holds (run_in t v) judged p o
   of_channel inside o found =
@@ -192,21 +134,20 @@ module _ (t : Tables) (v : TraceAsks) (judged : Judged) (placed : List PlacedReg
       ∙ ap (channel_holds (run_in t v) judged p) found
 
   in_map : (y : ℕ) → p.round < v.rounds → place_of t.channels p.channel ≡ Some y →
-      regions_hold (run_in t v) judged p ≡ map_holds t judged.maps placed (map_number t p.round y) p.third
+      regions_hold (run_in t v) judged p ≡ map_holds t judged.maps (placed_lines t v.rounds judged.lines) (map_number t p.round y) p.third
   in_map y inside at =
       let here = found_channel t.channels p.channel y at in
       let c : Channel = here.0 in
       let k : ℕ = length t.channels in
       let low : y < k = place_inside t.channels p.channel y at in
       let number : ℕ = map_number t p.round y in
-      let lines : List Region = lines_of number placed in
+      let lines : List Region = lines_of number (placed_lines t v.rounds judged.lines) in
       let pieces : List Region = map_regions (slice_get judged.maps number) in
       of_channel inside (Some c) here.1.found
       ∙ ap (λ place. minislot_holds c (map_len t c) (reserve_regions t p.round c ++ grant_regions p.round c.id judged.lines)
       (told_regions (run_in t v) judged p.round place) p.third) at
-      ∙ moved_holds c (map_len t c) (reserve_regions t p.round c ++ grant_regions p.round c.id judged.lines)
-      (reserve_regions t p.round c ++ lines) pieces p.third
-      (regions_told t v.rounds p.round y c judged.lines placed inside (ap (place_of t.channels) here.1.id_is ∙ at) moved)
+      ∙ ap (λ grants. minislot_holds c (map_len t c) (reserve_regions t p.round c ++ grants) pieces p.third)
+      (grants_told t v.rounds p.round y c inside (ap (place_of t.channels) here.1.id_is ∙ at) judged.lines)
       ∙ sym (ap (λ o. told.channel_holds t number lines pieces o p.third)
       (ap (slice_get t.channels) (mod-mul-add p.round k y low) ∙ here.1.there)
       ∙ ap (λ r. minislot_holds c (map_len t c) (reserve_regions t r c ++ lines) pieces p.third) (div-mul-add p.round k y low))
@@ -227,15 +168,14 @@ module _ (t : Tables) (v : TraceAsks) (judged : Judged) (placed : List PlacedReg
       by inside None none = inl (of_channel inside None (lacks t.channels p.channel none))
       by inside (Some y) at = inr (inside, y, at)
 
-pub all_hold : (t : Tables) (v : TraceAsks) (judged : Judged) (placed : List PlacedRegion) →
-    IsPermutation (filter_map (placed_line t v.rounds) judged.lines) placed →
-    IsFirstBefore (map_holds t judged.maps placed) (v.rounds * length t.channels) None →
+pub all_hold : (t : Tables) (v : TraceAsks) (judged : Judged) →
+    IsFirstBefore (map_holds t judged.maps (placed_lines t v.rounds judged.lines)) (v.rounds * length t.channels) None →
     (p : Place) → regions_hold (run_in t v) judged p ≡ true
-all_hold t v judged placed moved none p = elim (decided t v judged placed moved p) [
+all_hold t v judged none p = elim (decided t v judged p) [
   | inl holds ↦ holds
   | inr of ↦
       let k : ℕ = length t.channels in
-      in_map t v judged placed moved p of.1 of.0 of.2
+      in_map t v judged p of.1 of.0 of.2
       ∙ none (map_number t p.round of.1)
       (below_number k p.round of.1 v.rounds (place_inside t.channels p.channel of.1 of.2) of.0) p.third
 ]
@@ -284,10 +224,9 @@ earlier_round : (channels : List Channel) (p first : Place) → (p.round ≡ fir
 earlier_round channels p first other before =
     ltb-true p.round first.round (rw (ne_eqb p.round first.round other) at before)
 
-module _ (t : Tables) (v : TraceAsks) (judged : Judged) (placed : List PlacedRegion)
-    (moved : IsPermutation (filter_map (placed_line t v.rounds) judged.lines) placed) (lawful : AreTables t) (d : Channel)
-    (n at : ℕ) (place : Place) (of : IsPlaceIn t.channels n at place)
-    (first : IsFirstBefore (map_holds t judged.maps placed) (v.rounds * length t.channels) (Some (n, at))) where
+module _ (t : Tables) (v : TraceAsks) (judged : Judged) (lawful : AreTables t) (d : Channel) (n at : ℕ) (place : Place)
+    (of : IsPlaceIn t.channels n at place)
+    (first : IsFirstBefore (map_holds t judged.maps (placed_lines t v.rounds judged.lines)) (v.rounds * length t.channels) (Some (n, at))) where
   abbrev k : ℕ
   k = length t.channels
 
@@ -307,14 +246,14 @@ module _ (t : Tables) (v : TraceAsks) (judged : Judged) (placed : List PlacedReg
   ]
 
   before : (p : Place) (z : ℕ) → place_of t.channels p.channel ≡ Some z → goes_before t.channels p place ≡ true →
-      map_holds t judged.maps placed (map_number t p.round z) p.third ≡ true
+      map_holds t judged.maps (placed_lines t v.rounds judged.lines) (map_number t p.round z) p.third ≡ true
   before p z there goes = elim (cases_eq p.round place.round) [
     | inl same ↦ elim (earlier_places t.channels (none_is_zero t t.channels lawful.channels) p place (n % k) found same goes) [
       | inl here ↦
           let place_is : Some z ≡ Some (n % k) = sym there ∙ here.0 in
           let z_is : z ≡ n % k = cc in
           let is : map_number t p.round z ≡ n = ap (λ r. r * k + z) same ∙ ap (λ y. place.round * k + y) z_is ∙ number_is in
-          ap (λ m. map_holds t judged.maps placed m p.third) is ∙ first.1.1 p.third (omega (arith, here.1, of.third_is))
+          ap (λ m. map_holds t judged.maps (placed_lines t v.rounds judged.lines) m p.third) is ∙ first.1.1 p.third (omega (arith, here.1, of.third_is))
       | inr others ↦ elim others [
         | inl none ↦
             let never : Some z ≡ None = sym there ∙ none in
@@ -338,13 +277,13 @@ module _ (t : Tables) (v : TraceAsks) (judged : Judged) (placed : List PlacedReg
   pub first_holds : IsFirstBreach t.channels (λ p. regions_hold (run_in t v) judged p ≡ true) (Some place)
   first_holds = (
     λ holds. false≢true (
-        sym (in_map t v judged placed moved place (n % k) inside found
-        ∙ ap (λ m. map_holds t judged.maps placed m place.third) number_is
-        ∙ ap (map_holds t judged.maps placed n) of.third_is ∙ first.1.0)
+        sym (in_map t v judged place (n % k) inside found
+        ∙ ap (λ m. map_holds t judged.maps (placed_lines t v.rounds judged.lines) m place.third) number_is
+        ∙ ap (map_holds t judged.maps (placed_lines t v.rounds judged.lines) n) of.third_is ∙ first.1.0)
         ∙ holds),
-    λ p goes. elim (decided t v judged placed moved p) [
+    λ p goes. elim (decided t v judged p) [
       | inl holds ↦ holds
-      | inr has ↦ in_map t v judged placed moved p has.1 has.0 has.2 ∙ before p has.1 has.2 goes
+      | inr has ↦ in_map t v judged p has.1 has.0 has.2 ∙ before p has.1 has.2 goes
     ],
   )
 
@@ -354,64 +293,44 @@ one_of : (channels : List Channel) → 0 < length channels → Channel
 one_of [] some = absurd (omega (arith, some))
 one_of (c ∷ channels) some = c
 
-module _ (t : Tables) (v : TraceAsks) (judged : Judged) (bytes : List ℕ) (placed : List PlacedRegion) (number count at : ℕ)
-    (regions : List Region) (first : Option (ℕ × ℕ))
-    (moved : IsPermutation (filter_map (placed_line t v.rounds) judged.lines) placed)
-    (told : AreGathered t v.rounds bytes judged.maps placed number at regions first)
+module _ (t : Tables) (v : TraceAsks) (judged : Judged) (bytes : List ℕ) (number count at : ℕ) (regions : List Region)
+    (first : Option (ℕ × ℕ)) (told : AreGathered t v.rounds bytes judged.maps (placed_lines t v.rounds judged.lines) number at regions first)
     (all : count ≡ v.rounds * length t.channels) (last : number ≡ count) where
   judged_all : (answer : Option (ℕ × ℕ)) → first ≡ answer →
-      IsFirstBefore (map_holds t judged.maps placed) (v.rounds * length t.channels) answer
+      IsFirstBefore (map_holds t judged.maps (placed_lines t v.rounds judged.lines)) (v.rounds * length t.channels) answer
   judged_all answer is =
-      subst (λ n. IsFirstBefore (map_holds t judged.maps placed) n answer) (last ∙ all)
-      (subst (IsFirstBefore (map_holds t judged.maps placed) number) is told.judged)
+      subst (λ n. IsFirstBefore (map_holds t judged.maps (placed_lines t v.rounds judged.lines)) n answer) (last ∙ all)
+      (subst (IsFirstBefore (map_holds t judged.maps (placed_lines t v.rounds judged.lines)) number) is told.judged)
 
   pub all_told : first ≡ None → (p : Place) → regions_hold (run_in t v) judged p ≡ true
-  all_told none = all_hold t v judged placed moved (judged_all None none)
+  all_told none = all_hold t v judged (judged_all None none)
 
   pub first_told : (n third : ℕ) (place : Place) → AreTables t → first ≡ Some (n, third) → IsPlaceIn t.channels n third place →
       IsFirstBreach t.channels (λ p. regions_hold (run_in t v) judged p ≡ true) (Some place)
   first_told n third place lawful is of =
-      first_holds t v judged placed moved lawful (one_of t.channels lawful.some_channels.0) n third place of
+      first_holds t v judged lawful (one_of t.channels lawful.some_channels.0) n third place of
       (judged_all (Some (n, third)) is)
 
 -- Lines, one after another.
 
-line_behind : (run : Run) (lines : List Row) (line : Row) (placed : List PlacedRegion) (o : Option PlacedRegion) →
+line_behind : (run : Run) (lines : List Row) (line : Row) (o : Option PlacedRegion) →
     placed_line run.tables run.rounds line ≡ o →
-    IsPermutation (filter_map (placed_line run.tables run.rounds) lines) placed →
-    IsPermutation (filter_map (placed_line run.tables run.rounds) (lines ++ line ∷ [])) (placed ++ option_to_list o)
-line_behind run lines line placed o is moved =
-    let f : Row → Option PlacedRegion = placed_line run.tables run.rounds in
-    subst (λ ps. IsPermutation ps (placed ++ option_to_list o))
-    (sym (filter_map-append f lines (line ∷ []) ∙ ap (λ ps. filter_map f lines ++ ps) (one_told f line o is)))
-    (IsPermutation-append_left (option_to_list o) (filter_map f lines) placed moved)
+    placed_lines run.tables run.rounds (lines ++ line ∷ []) ≡
+    placed_lines run.tables run.rounds lines ++ option_to_list o
+line_behind run lines line o is =
+    filter_map-append (placed_line run.tables run.rounds) lines (line ∷ [])
+    ∙ ap (λ ps. placed_lines run.tables run.rounds lines ++ ps) (one_told (placed_line run.tables run.rounds) line o is)
 
 pub told_aside : (run : Run) (bytes : List ℕ) (maps : List RoundMap) (lines : List Row) (line : Row) (s : MapRegions) →
     placed_line run.tables run.rounds line ≡ None → AreTold run bytes maps lines s →
     AreTold run bytes maps (lines ++ line ∷ []) s
-told_aside run bytes maps lines line s none told = record {
-  placed = told.placed;
-  moved = subst (IsPermutation (filter_map (placed_line run.tables run.rounds) (lines ++ line ∷ []))) (append-nil told.placed)
-      (line_behind run lines line told.placed None none told.moved);
-  state = told.state;
-}
+told_aside run bytes maps lines line s none told =
+    subst (λ placed. IsStateOf run.tables run.rounds bytes maps placed s)
+    (sym (line_behind run lines line None none ∙ append-nil (placed_lines run.tables run.rounds lines))) told
 
 pub told_more : (run : Run) (bytes : List ℕ) (maps : List RoundMap) (lines : List Row) (line : Row) (q : PlacedRegion)
-    (s u : MapRegions) → placed_line run.tables run.rounds line ≡ Some q →
-    ((placed : List PlacedRegion) → q.map < run.rounds * length run.tables.channels →
-    IsStateOf run.tables run.rounds bytes maps placed s → IsStateOf run.tables run.rounds bytes maps (placed ++ q ∷ []) u) →
-    AreTold run bytes maps lines s → AreTold run bytes maps (lines ++ line ∷ []) u
-told_more run bytes maps lines line q s u is step told = record {
-  placed = told.placed ++ q ∷ [];
-  moved = line_behind run lines line told.placed (Some q) is told.moved;
-  state = step told.placed (placed_inside run.tables run.rounds line q is) told.state;
-}
-
--- What the calls of a step say.
-
-pub moved_lines : (t : Tables) (rounds told : ℕ) (lines : List Row) (placed lent : List PlacedRegion) → told ≡ rounds →
-    lent ≡ placed → IsPermutation (filter_map (placed_line t told) lines) placed →
-    IsPermutation (filter_map (placed_line t rounds) lines) lent
-moved_lines t rounds told lines placed lent same_rounds same_placed moved =
-    subst (λ r. IsPermutation (filter_map (placed_line t r) lines) lent) same_rounds
-    (subst (IsPermutation (filter_map (placed_line t told) lines)) (sym same_placed) moved)
+    (u : MapRegions) → placed_line run.tables run.rounds line ≡ Some q →
+    IsStateOf run.tables run.rounds bytes maps (placed_lines run.tables run.rounds lines ++ q ∷ []) u →
+    AreTold run bytes maps (lines ++ line ∷ []) u
+told_more run bytes maps lines line q u is told =
+    subst (λ placed. IsStateOf run.tables run.rounds bytes maps placed u) (sym (line_behind run lines line (Some q) is)) told

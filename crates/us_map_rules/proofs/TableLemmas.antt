@@ -1,13 +1,15 @@
 -- Channels of a table by their ids, and the numbers of MAPs.
-use Rattle.std.proofs.Common.{◌≡◌, ◌≢◌, ℕ, zero, suc, ◌+◌, ◌*◌, ◌<◌, ◌≤◌, ◌==◌, List, [], ◌∷◌, length, map, get_or, Option, Some, None, slice_get, refl, ap, ◌∙◌, subst, suc-mul, mul-le-mul_right, arith, inl, inr}
+use Rattle.std.proofs.Common.{◌≡◌, ◌≢◌, ℕ, zero, suc, ◌+◌, ◌*◌, ◌<◌, ◌≤◌, ◌==◌, List, [], ◌∷◌, length, map, get_or, Option, Some, None, slice_get, refl, sym, ap, ◌∙◌, subst, suc-mul, mul-le-mul_right, arith, inl, inr}
 use Rattle.std.specs.List.{AllByRecursion, position_or_len}
-use Rattle.std.proofs.lemmas.Bool.{cases_lt, cases_order, eq-eqb, eqb-true, le-ltb, lt-ltb, ne_eqb}
+use Rattle.std.specs.Prelude.{nat_lt}
+use Rattle.std.proofs.lemmas.Bool.Decides.{nat_tests}
+use Rattle.std.proofs.lemmas.Bool.{cases_Bool, cases_lt, cases_order, eq-eqb, eqb-true, le-ltb, lt-ltb, ne_eqb}
 use Rattle.std.proofs.lemmas.List.Folds.{find_at}
 use Rattle.std.proofs.lemmas.List.Quantifiers.{position-Some}
 use Rattle.std.proofs.lemmas.List.Sums.{position_or_len_is}
 use Rattle.std.proofs.lemmas.Option.{slice_get_past, slice_get-get_or}
 use Rattle.us_flows.specs.declared.channels.Channel.{Channel}
-use Rattle.us_flows.specs.Tables.{Tables, channel_with}
+use Rattle.us_flows.specs.Tables.{Tables, channel_with, has_channel}
 use Rattle.us_flows.specs.Lawful.{AreApart, IsChannel}
 use Rattle.us_reports.specs.Order.{place_of}
 
@@ -89,6 +91,21 @@ lacks channels id none = elim (cases_lt (position_or_len (λ (c : Channel). c.id
       absurd (cc never)
   | inr over ↦ find_at (λ c. c.id == id) channels
       ∙ slice_get_past channels (position_or_len (λ (c : Channel). c.id == id) channels) over
+]
+
+-- the table has a channel where its id is found
+abbrev pub place_or_end : List Channel → ℕ → ℕ
+place_or_end channels id = position_or_len (λ (c : Channel). c.id == id) channels
+
+less_more : (a b : ℕ) → nat_lt (1 + a) (suc b) ≡ nat_lt a b
+less_more a b = grind (arith, nat_tests)
+
+pub has_by_place : (channels : List Channel) (id : ℕ) →
+    has_channel channels id ≡ nat_lt (place_or_end channels id) (length channels)
+has_by_place [] id = refl
+has_by_place (c ∷ more) id = elim (cases_Bool (c.id == id)) [
+  | inl is ↦ rw is (sym (lt-ltb 0 (suc (length more)) (omega arith)))
+  | inr other ↦ rw other (has_by_place more id ∙ sym (less_more (place_or_end more id) (length more)))
 ]
 
 -- no id is 0

@@ -1,17 +1,16 @@
 -- Lines of MAPs that are told one after another: what is known behind each step.
-use Rattle.std.proofs.Common.{◌≡◌, ℕ, zero, suc, ◌+◌, ◌*◌, ◌<◌, ◌≤◌, ◌==◌, Bool, List, [], ◌∷◌, ◌++◌, length, filter_map, take, drop, drop-drop, get_or, Option, Some, None, slice_get, add-one, refl, sym, ap, ap₂, ◌∙◌, subst, arith, inl, inr}
+use Rattle.std.proofs.Common.{◌≡◌, ℕ, zero, suc, ◌+◌, ◌*◌, ◌<◌, ◌≤◌, ◌==◌, Bool, List, [], ◌∷◌, ◌++◌, length, filter_map, drop, drop-drop, Option, Some, None, slice_get, refl, sym, ap, ap₂, ◌∙◌, subst, arith, inl, inr}
 use Rattle.std.specs.Prelude.{min, option_to_list}
 use Rattle.std.specs.List.{AllByRecursion}
-use Rattle.std.proofs.Math.Seq.{take-suc}
 use Rattle.std.proofs.lemmas.Bool.{cases_Bool, cases_lt, eq-eqb, ne_eqb}
 use Rattle.std.proofs.lemmas.List.{drop_all}
 use Rattle.us_flows.specs.Tables.{Tables}
 use Rattle.us_output.proofs.PartLemmas.{all_append}
-use Rattle.us_lawful.specs.declared.judged.RoundMap.{RoundMap}
+use Rattle.us_lawful.specs.Runs.{RoundMap}
 use Rattle.us_lawful.specs.Regions.{Region, map_regions}
-use Rattle.us_map_rules.specs.declared.region_lines.PlacedRegion.{PlacedRegion}
 use Rattle.us_map_rules.specs.MapsReading.{IsMapsOf}
 use Rattle.us_map_rules.specs.Minislots.{IsFirstFailing}
+use Rattle.us_map_rules.specs.RegionLines.{PlacedRegion}
 use Rattle.us_map_rules.specs.Gathered.{AreGathered, IsFirstBefore, IsFirstWith, lines_of, map_holds, number_holds}
 
 -- The lines of a MAP: with one more that is of it,
@@ -48,10 +47,6 @@ up_to_next number (q ∷ placed) all = (omega (arith, all.0), up_to_next number 
 pub one_told : {X Y : Type 0} (f : X → Option Y) (x : X) (o : Option Y) → f x ≡ o → filter_map f (x ∷ []) ≡ option_to_list o
 one_told f x None is = rw is refl
 one_told f x (Some y) is = rw is refl
-
-pub item_more : {X : Type 0} (xs : List X) (i : ℕ) (d : X) → i < length xs →
-    take (i + 1) xs ≡ take i xs ++ get_or xs i d ∷ []
-item_more xs i d inside = rw add-one (take-suc xs i d inside)
 
 -- Tests that say the same have the same first failures.
 

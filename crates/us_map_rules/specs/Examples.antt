@@ -5,7 +5,7 @@ use Rattle.std.proofs.lemmas.List.{length-append}
 use Rattle.us_codec.specs.Elements.{word_of}
 use Rattle.us_codec.specs.Bodies.{MapBody, IsMapBody, body_of, element_bytes, front, spelling}
 use Rattle.us_codec.specs.MapsFiles.{record_bytes, maps_file}
-use Rattle.us_lawful.specs.declared.judged.RoundMap.{RoundMap}
+use Rattle.us_lawful.specs.Runs.{RoundMap}
 use Rattle.us_lawful.specs.Lawful.{IsRoundMap}
 use Rattle.us_map_rules.specs.MapsReading.{IsMapsOf, IsFirstBadRecord, BeginsNoRecord}
 

@@ -1,19 +1,20 @@
 -- The rule of minislots, told one line after another: MAPs go by their numbers, by round and then by channel.
-use Rattle.std.specs.Prelude.{◌≡◌, ℕ, ◌*◌, ◌/◌, ◌%◌, ◌<◌, ◌≤◌, ◌==◌, Bool, true, List, ◌++◌, length, map, filter, slice_get, slice_index_or, drop, filter_map, Option, Some, None}
+use Rattle.std.specs.Prelude.{◌≡◌, ℕ, ◌*◌, ◌/◌, ◌%◌, ◌<◌, ◌≤◌, ◌==◌, Bool, true, false, List, ◌++◌, length, map, filter, slice_get, slice_index_or, drop, Option, Some, None}
 use Rattle.std.specs.List.{AllByRecursion}
-use Rattle.std.specs.List.Sorted.{IsPermutation}
 use Rattle.us_flows.specs.declared.channels.Channel.{Channel}
 use Rattle.us_flows.specs.Tables.{Tables, map_len}
 use Rattle.us_output.specs.declared.rows.Row.{Row}
-use Rattle.us_lawful.specs.Runs.{Run}
+use Rattle.us_lawful.specs.Runs.{Run, RoundMap}
 use Rattle.us_reports.specs.declared.place.Place.{Place}
-use Rattle.us_lawful.specs.declared.judged.RoundMap.{RoundMap}
+use Rattle.us_reports.specs.Breaches.{IsFirstFailure}
 use Rattle.us_lawful.specs.Regions.{Region, map_regions, minislot_holds, reserve_regions}
-use Rattle.us_map_rules.specs.declared.region_lines.PlacedRegion.{PlacedRegion}
 use Rattle.us_map_rules.specs.declared.gathered.MapRegions.{MapRegions}
+use Rattle.us_map_rules.specs.declared.gathered.Taken.{Taken}
+use Rattle.us_map_rules.specs.declared.gathered.Taken.TheVariants as taken
+use Rattle.us_map_rules.specs.LackedPlaces.{IsOfLackedPlace}
 use Rattle.us_map_rules.specs.MapsReading.{IsMapsOf}
 use Rattle.us_map_rules.specs.Minislots.{IsFirstFailing}
-use Rattle.us_map_rules.specs.RegionLines.{placed_line}
+use Rattle.us_map_rules.specs.RegionLines.{PlacedRegion, comes_next, placed_lines}
 
 -- At a minislot of the MAP of a number: its channel, with the minislots of its lines and its elements,
 abbrev pub channel_holds : Tables → ℕ → List Region → List Region → Option Channel → ℕ → Bool
@@ -62,10 +63,24 @@ IsStateOf t rounds bytes maps placed s =
     AreGathered t rounds bytes maps placed s.number s.at s.regions.items s.first
 
 -- these lines are told, beside the MAPs of a file
-pub record AreTold (run : Run) (bytes : List ℕ) (maps : List RoundMap) (lines : List Row) (s : MapRegions) : Type 0 where
-  pub placed : List PlacedRegion
-  pub moved : IsPermutation (filter_map (placed_line run.tables run.rounds) lines) placed
-  pub state : IsStateOf run.tables run.rounds bytes maps placed s
+abbrev pub AreTold : Run → List ℕ → List RoundMap → List Row → MapRegions → Type 0
+AreTold run bytes maps lines s =
+    IsStateOf run.tables run.rounds bytes maps (placed_lines run.tables run.rounds lines) s
+
+-- What is answered of a line: whether it is told,
+abbrev pub is_told : Taken → Bool
+is_told taken.Late = false
+is_told _ = true
+
+-- the place that the run lacks,
+abbrev pub lacked_told : Taken → Option Place
+lacked_told (taken.Lacked place) = Some place
+lacked_told _ = None
+
+-- what is answered of a line, where lines of the MAP of this number come
+pub record IsTaken (run : Run) (number : ℕ) (line : Row) (answer : Taken) : Type 0 where
+  pub told : is_told answer ≡ comes_next run.tables run.rounds number line
+  pub lacked : IsFirstFailure run.tables.channels (IsOfLackedPlace run line) (lacked_told answer)
 
 -- a minislot of the MAP of a number, as a place
 pub record IsPlaceIn (channels : List Channel) (number third : ℕ) (place : Place) : Type 0 where

@@ -4,15 +4,13 @@ use Rattle.std.specs.Fmt.{decimal}
 use Rattle.std.specs.List.{AllByRecursion}
 use Rattle.us_codec.specs.MapsFiles.{Piece, IsPiece, record_bytes, maps_file}
 use Rattle.us_output.specs.declared.rows.Row.{Row}
-use Rattle.us_lawful.specs.declared.judged.RoundMap.{RoundMap}
 use Rattle.us_reports.specs.declared.place.Place.{Place}
-use Rattle.us_lawful.specs.Runs.{Run}
+use Rattle.us_lawful.specs.Runs.{Run, RoundMap}
 use Rattle.us_lawful.specs.Headings.{HeadingsHold}
 use Rattle.us_lawful.specs.Lawful.{IsRoundMap}
 use Rattle.us_lawful.specs.Texts.{record_of}
 use Rattle.us_reports.specs.Breaches.{IsFirstBreach}
 use Rattle.us_map_rules.specs.declared.maps_faults.MapsFault.{MapsFault}
-use Rattle.us_map_rules.specs.declared.maps_faults.MapsFault.TheVariants as fault
 
 -- the bytes are the records of these MAPs
 pub record IsMapsOf (bytes : List ℕ) (maps : List RoundMap) : Type 0 where
@@ -35,13 +33,12 @@ pub record IsFirstBadRecord (bytes : List ℕ) (number : ℕ) : Type 0 where
   pub bad : BeginsNoRecord rest
 
 -- what is answered of the bytes of a maps file: the first of its MAPs that isn't that of the run, or else the first record that
--- is of no MAP; of want of memory this says nothing
+-- is of no MAP
 abbrev pub Answers : Run → List ℕ → Result (Option Place) MapsFault → Type 0
 Answers run bytes (Ok first) =
     (maps : List RoundMap) × IsMapsOf bytes maps
     × ((lines : List Row) → IsFirstBreach run.tables.channels (HeadingsHold run (record { maps = maps; lines = lines })) first)
-Answers run bytes (Err (fault.Record number)) = IsFirstBadRecord bytes number
-Answers run bytes (Err fault.NoMemory) = Unit {0}
+Answers run bytes (Err fault) = IsFirstBadRecord bytes fault.record
 
 -- what bytes are read as: MAPs, or the number of a record
 abbrev pub IsReading : List ℕ → Result (List RoundMap) ℕ → Type 0
@@ -54,8 +51,7 @@ OneReadingOfMaps = (bytes : List ℕ) (a b : Result (List RoundMap) ℕ) → IsR
 
 -- the text of a fault
 abbrev pub fault_text : MapsFault → List ℕ
-fault_text (fault.Record number) = codes "record " ++ decimal number ++ codes " is none of a maps file"
-fault_text fault.NoMemory = codes "out of memory"
+fault_text fault = codes "record " ++ decimal fault.record ++ codes " is none of a maps file"
 
 -- How records are read, for a call of this crate.
 

@@ -1,18 +1,15 @@
-ghost use Rattle.std.specs.Prelude.{◌≡◌, ℕ, ◌+◌, ◌^◌, ◌<◌, ◌≤◌, ◌*◌, ◌++◌, ◌∷◌, [], List, true, length, IfOk, OnOk};
-ghost use Rattle.us_flows.specs.Tables.{Tables};
+ghost use Rattle.std.specs.Prelude.{◌≡◌, ℕ, ◌+◌, ◌^◌, ◌<◌, ◌≤◌, ◌*◌, ◌++◌, ◌∷◌, [], List, true, false, length, IfOk, OnOk};
 ghost use Rattle.us_output.specs.declared.rows.Row.{Row};
-ghost use Rattle.us_lawful.specs.Runs.{Run, run_in};
-ghost use Rattle.us_lawful.specs.declared.judged.RoundMap.{RoundMap};
+ghost use Rattle.us_lawful.specs.Runs.{Run, RoundMap, run_in};
 ghost use Rattle.us_lawful.specs.Regions.{regions_hold};
 ghost use Rattle.us_reports.specs.Breaches.{IsFirstBreach};
-ghost use Rattle.us_map_rules.specs.declared.region_lines.PlacedRegion.{PlacedRegion};
 ghost use Rattle.us_map_rules.specs.MapsReading.{IsMapsOf};
-ghost use Rattle.us_map_rules.specs.RegionLines as placing;
-ghost use Rattle.us_map_rules.specs.Gathered.{AreTold, IsPlaceIn, IsStateOf};
+ghost use Rattle.us_map_rules.specs.RegionLines.{PlacedRegion, number_behind, placed_line};
+ghost use Rattle.us_map_rules.specs.Gathered.{AreTold, IsPlaceIn, IsStateOf, IsTaken, is_told};
 
 use crate::map_regions::first_with;
 use crate::pieces::next_pieces;
-use crate::region_lines::{PlacedRegion, placed_line};
+use crate::region_lines::{map_at, place_told, region_of};
 use crate::regions::Region;
 use std::alloc::Global;
 use us_flows::Config;
@@ -20,6 +17,17 @@ use us_reports::Place;
 use us_requests::Trace;
 use us_round::Row;
 use us_slots::NoMemory;
+
+/// What becomes of a line that [`MapRegions`] is told.
+#[derive(Clone, Copy, Debug, PartialEq, Eq)]
+pub enum Taken {
+    /// It is told.
+    Told,
+    /// The same, and it is of this round and channel, of which the run lacks one or both.
+    Lacked(Place),
+    /// It isn't told: it comes too late, behind a line of a later MAP.
+    Late,
+}
 
 /// The rule of minislots, told one line after another in the order of MAPs: by round, and then by channel in table order. The
 /// minislots of one MAP are kept at a time, and its elements are read where they stand in the maps file.
@@ -40,11 +48,8 @@ pub struct MapRegions {
 impl MapRegions {
     /// No line is told.
     pub fn new(alloc: Global) -> MapRegions
-        ensures told { (run : Run) (bytes : List ℕ) (maps : List RoundMap) → IsMapsOf bytes maps →
+        ensures { (run : Run) (bytes : List ℕ) (maps : List RoundMap) → IsMapsOf bytes maps →
             AreTold run bytes maps [] result }
-        ensures state { (t : Tables) (rounds : ℕ) (bytes : List ℕ) (maps : List RoundMap) → IsMapsOf bytes maps →
-            IsStateOf t rounds bytes maps [] result }
-        ensures number { result.number ≡ 0 }
     {
         MapRegions {
             number: 0,
@@ -55,46 +60,57 @@ impl MapRegions {
         }
     }
 
-    /// Tells a line more. Not told is a line of a MAP before that of another line: the answer is no.
+    /// Tells a line more. One that comes too late changes nothing. After an error it isn't known what is told.
     pub fn take(
         &mut self,
         config: &Config,
         trace: &Trace,
         file: &[u8],
         line: &Row,
-    ) -> Result<bool, NoMemory>
-        ensures told { IfOk result (λ told. told ≡ true → (maps : List RoundMap) (lines : List Row) →
+    ) -> Result<Taken, NoMemory>
+        ensures answer { IfOk result (IsTaken (run_in config.now trace.now) self.old.number line.now) }
+        ensures told { IfOk result (λ taken. is_told taken ≡ true → (maps : List RoundMap) (lines : List Row) →
             AreTold (run_in config.now trace.now) file.now maps lines self.old →
             AreTold (run_in config.now trace.now) file.now maps (lines ++ line.now ∷ []) self.new) }
-        ensures next { IfOk result (λ told.
-            told ≡ placing.comes_next config.now trace.now.rounds self.old.number line.now) }
+        ensures number { IfOk result (λ taken. is_told taken ≡ true → self.new.number ≡
+            number_behind self.old.number (placed_line config.now trace.now.rounds line.now)) }
+        ensures late { IfOk result (λ taken. is_told taken ≡ false → self.new ≡ self.old) }
     {
-        match placed_line(config, trace.rounds(), line) {
-            None => Ok(true),
-            Some(one) if one.map < self.number => Ok(false),
-            Some(one) => {
-                self.put(config, file, one)?;
-                Ok(true)
-            }
+        let Some(place) = place_told(line) else {
+            return Ok(Taken::Told);
+        };
+        let near = (self.number % config.channels().len() as u64) as usize;
+        let Some(map) = map_at(config, trace.rounds(), near, place.round, place.channel) else {
+            return Ok(Taken::Lacked(place));
+        };
+        let Row::Granted(grant) = line else {
+            return Ok(Taken::Told);
+        };
+        if map < self.number {
+            return Ok(Taken::Late);
         }
+        self.put(config, file, map, region_of(grant))?;
+        Ok(Taken::Told)
     }
 
-    /// Tells the minislots of a line more.
-    pub(crate) fn put(
+    /// Tells the minislots of a line more, which is for the MAP of this number.
+    fn put(
         &mut self,
         config: &Config,
         file: &[u8],
-        one: PlacedRegion,
+        map: u64,
+        region: Region,
     ) -> Result<(), NoMemory>
-        requires { self.old.number ≤ one.map }
-        ensures told { OnOk result ((rounds : ℕ) (maps : List RoundMap) (placed : List PlacedRegion) →
-            one.map < rounds * length config.now.channels →
+        requires { self.old.number ≤ map }
+        ensures told { let one : PlacedRegion = record { map = map; region = region } in
+            OnOk result ((rounds : ℕ) (maps : List RoundMap) (placed : List PlacedRegion) →
+            map < rounds * length config.now.channels →
             IsStateOf config.now rounds file.now maps placed self.old →
             IsStateOf config.now rounds file.now maps (placed ++ one ∷ []) self.new) }
-        ensures number { OnOk result (self.new.number ≡ one.map) }
+        ensures number { OnOk result (self.new.number ≡ map) }
     {
-        self.close_before(config, file, one.map)?;
-        self.regions.push(one.region)?;
+        self.close_before(config, file, map)?;
+        self.regions.push(region)?;
         Ok(())
     }
 
@@ -131,7 +147,8 @@ impl MapRegions {
         Ok(())
     }
 
-    /// The first place at which a minislot of a MAP isn't what it must be, by the lines that were told.
+    /// The first place at which a minislot of a MAP isn't what it must be, by the lines that were told. After it nothing is
+    /// known of what is told.
     pub fn breach(
         &mut self,
         config: &Config,

@@ -5,23 +5,19 @@ ghost use Rattle.us_channel.specs.Maps;
 ghost use Rattle.us_lawful.specs.Runs.{run_in};
 ghost use Rattle.us_lawful.specs.Headings as rule;
 ghost use Rattle.us_map_rules.specs.MapsReading.{Answers};
-ghost use Rattle.us_map_rules.specs.Headings.{IsOtherWith};
+ghost use Rattle.us_map_rules.specs.Headings.{IsOtherWith, heading_read};
 
 use crate::maps_faults::MapsFault;
-use crate::maps_reading::first_map;
-use std::alloc::Global;
-use us_codec::{Element, Head};
+use crate::maps_reading::{MapHeading, first_heading};
+use us_codec::Head;
 use us_flows::{Channel, Config};
-use us_lawful::RoundMap;
 use us_reports::Place;
 use us_requests::Trace;
-use us_slots::Iuc;
 
 /// The first MAP of a maps file that doesn't say of itself what the MAP of its number in the run must say, that is missing, or
 /// that is one too many. Its number, from 0, is the third number of the place. The error is the first record that is none:
 /// one that is cut, or whose body isn't in the grammar. All records are looked at before any MAP is answered.
 pub fn headings_breach(
-    alloc: Global,
     config: &Config,
     trace: &Trace,
     file: &[u8],
@@ -33,10 +29,12 @@ pub fn headings_breach(
     let mut other = None;
     let mut rest = file;
     while !rest.is_empty() {
-        let Some((map, behind)) = first_map(alloc, rest)? else {
-            return Err(MapsFault::Record(number as u64));
+        let Some((heading, behind)) = first_heading(rest) else {
+            return Err(MapsFault {
+                record: number as u64,
+            });
         };
-        other = other_with(other, config, trace, number, &map);
+        other = other_with(other, config, trace, number, &heading);
         number += 1;
         rest = behind;
     }
@@ -55,15 +53,15 @@ fn other_with(
     config: &Config,
     trace: &Trace,
     number: usize,
-    map: &RoundMap,
+    heading: &MapHeading,
 ) -> Option<usize>
     requires { rounds_fit config.now trace.now.rounds ≡ true }
-    ensures { IsOtherWith (run_in config.now trace.now) number map.now other result }
+    ensures { IsOtherWith (run_in config.now trace.now) number (heading_read heading.now) other result }
 {
     if other.is_some() {
         return other;
     }
-    if is_map_of_run(config, trace, number, map) {
+    if is_map_of_run(config, trace, number, heading) {
         None
     } else {
         Some(number)
@@ -82,26 +80,26 @@ fn place_of(number: usize) -> Place
 }
 
 /// Whether the run has a MAP of this number, by round and then by channel, and this one says of itself what that must say.
-fn is_map_of_run(config: &Config, trace: &Trace, number: usize, map: &RoundMap) -> bool
+fn is_map_of_run(config: &Config, trace: &Trace, number: usize, heading: &MapHeading) -> bool
     requires { rounds_fit config.now trace.now.rounds ≡ true }
     ensures { IsTrue result ↔
-        (slice_get (rule.headings_of (run_in config.now trace.now)) number ≡ Some (rule.heading_told map.now)) }
+        (slice_get (rule.headings_of (run_in config.now trace.now)) number ≡ Some (heading_read heading.now)) }
 {
     let channels = config.channels();
     let round = number / channels.len();
     let channel = &channels[number % channels.len()];
-    round < trace.rounds() as usize && is_map_of(config, round as u32, channel, map)
+    round < trace.rounds() as usize && is_map_of(config, round as u32, channel, heading)
 }
 
 /// Whether a MAP says of itself what that of a channel's round must say.
-fn is_map_of(config: &Config, round: u32, channel: &Channel, map: &RoundMap) -> bool
+fn is_map_of(config: &Config, round: u32, channel: &Channel, heading: &MapHeading) -> bool
     requires lawful { IsChannel config.now channel.now }
     requires time { (round + 1) * config.now.round_ticks ≤ max_run_ticks }
-    ensures { IsTrue result ↔ (rule.heading_told map.now ≡ rule.heading_of config.now round channel.now) }
+    ensures { IsTrue result ↔ (heading_read heading.now ≡ rule.heading_of config.now round channel.now) }
 {
-    map.round == round
-        && *map.body.head() == head_of(config, round, channel)
-        && null_offset(map.body.elements()) == Some(config.map_len(channel))
+    heading.round == round
+        && heading.head == head_of(config, round, channel)
+        && heading.len == config.map_len(channel)
 }
 
 /// What stands before the elements of the MAP of a channel's round.
@@ -121,14 +119,4 @@ fn head_of(config: &Config, round: u32, channel: &Channel) -> Head
         ack: start.saturating_sub(config.lead_ticks()) / channel.bursts.time().minislot_ticks(),
         backoffs: [ranging_start, ranging_end, data_start, data_end],
     }
-}
-
-/// Where the Null stands among the elements of a MAP, in minislots.
-fn null_offset(elements: &[Element]) -> Option<u32>
-    ensures { result ≡ rule.null_offset elements.now }
-{
-    let null = elements
-        .iter()
-        .find(|element| element.iuc() == Iuc::null())?;
-    Some(u32::from(null.offset()))
 }

@@ -1,15 +1,11 @@
-use std::alloc::{AllocError, AllocFailed};
 use std::error::Error;
 use std::fmt;
-use us_slots::NoMemory;
 
-/// Why the MAPs of a maps file aren't answered.
+/// Why the MAPs of a maps file aren't answered: one of its records is none.
 #[derive(Clone, Copy, Debug, PartialEq, Eq)]
-pub enum MapsFault {
-    /// This record, counted from 0, is the first that is none: it is cut, or its body isn't in the grammar.
-    Record(u64),
-    /// Want of memory.
-    NoMemory,
+pub struct MapsFault {
+    /// The first such record, counted from 0: it is cut, or its body isn't in the grammar.
+    pub record: u64,
 }
 
 /// Writes the text of a fault.
@@ -20,44 +16,9 @@ impl fmt::Display for MapsFault {
     ghost output = { λ fault. Some (fault_text fault) };
 
     fn fmt<W: fmt::Write>(&self, f: &mut fmt::Formatter<W>) -> fmt::Result {
-        match *self {
-            MapsFault::Record(number) => write!(f, "record {number} is none of a maps file"),
-            MapsFault::NoMemory => f.write_str("out of memory"),
-        }
+        let record = self.record;
+        write!(f, "record {record} is none of a maps file")
     }
 }
 
 impl Error for MapsFault {}
-
-impl From<NoMemory> for MapsFault {
-    ghost use Rattle.std.specs.Prelude.{◌≡◌};
-    ghost use Rattle.us_map_rules.specs.declared.maps_faults.MapsFault.TheVariants as fault;
-
-    ghost from_gives = { λ _ given. given ≡ fault.NoMemory };
-
-    fn from(_refused: NoMemory) -> MapsFault {
-        MapsFault::NoMemory
-    }
-}
-
-impl From<AllocError> for MapsFault {
-    ghost use Rattle.std.specs.Prelude.{◌≡◌};
-    ghost use Rattle.us_map_rules.specs.declared.maps_faults.MapsFault.TheVariants as fault;
-
-    ghost from_gives = { λ _ given. given ≡ fault.NoMemory };
-
-    fn from(_refused: AllocError) -> MapsFault {
-        MapsFault::NoMemory
-    }
-}
-
-impl<T: Drop> From<AllocFailed<T>> for MapsFault {
-    ghost use Rattle.std.specs.Prelude.{◌≡◌};
-    ghost use Rattle.us_map_rules.specs.declared.maps_faults.MapsFault.TheVariants as fault;
-
-    ghost from_gives = { λ _ given. given ≡ fault.NoMemory };
-
-    fn from(_refused: AllocFailed<T>) -> MapsFault {
-        MapsFault::NoMemory
-    }
-}

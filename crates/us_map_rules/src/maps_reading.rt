@@ -1,30 +1,33 @@
-ghost use Rattle.std.specs.Prelude.{◌≡◌, ◌++◌, IfSome, IfNone, IfOk};
+ghost use Rattle.std.specs.Prelude.{◌≡◌, ◌++◌, IfSome, IfNone};
 ghost use Rattle.us_codec.specs.MapsFiles.{Piece, IsPiece, record_bytes};
+ghost use Rattle.us_lawful.specs.Runs.{RoundMap};
+ghost use Rattle.us_lawful.specs.Headings.{heading_told};
 ghost use Rattle.us_lawful.specs.Lawful.{IsRoundMap};
 ghost use Rattle.us_lawful.specs.Texts.{record_of};
+ghost use Rattle.us_map_rules.specs.Headings.{heading_read};
 ghost use Rattle.us_map_rules.specs.MapsReading.{BeginsNoPiece, BeginsNoRecord};
 
-use std::alloc::Global;
-use us_codec::{MapFault, decode};
-use us_lawful::RoundMap;
-use us_slots::NoMemory;
+use crate::bodies::body_told;
+use us_codec::Head;
 
-/// The MAP of the record that bytes begin with, and what stands behind it; `None` where they begin with no record of a MAP.
-pub(crate) fn first_map(alloc: Global, bytes: &[u8]) -> Result<Option<(RoundMap, &[u8])>, NoMemory>
-    ensures found { IfOk result (λ found. IfSome found (λ first.
-        IsRoundMap first.0 × (bytes.now ≡ record_bytes (record_of first.0) ++ first.1.now))) }
-    ensures none { IfOk result (λ found. IfNone found (BeginsNoRecord bytes.now)) }
+/// What a MAP says of itself: its round, what stands before its elements, and its length.
+#[derive(Clone, Copy)]
+pub(crate) struct MapHeading {
+    pub(crate) round: u32,
+    pub(crate) head: Head,
+    pub(crate) len: u32,
+}
+
+/// What the MAP of the record that bytes begin with says of itself, and what stands behind it; `None` where they begin with
+/// no record of a MAP.
+pub(crate) fn first_heading(bytes: &[u8]) -> Option<(MapHeading, &[u8])>
+    ensures some { IfSome result (λ first. (m : RoundMap) × IsRoundMap m
+        × (bytes.now ≡ record_bytes (record_of m) ++ first.1.now) × (heading_told m ≡ heading_read first.0)) }
+    ensures none { IfNone result (BeginsNoRecord bytes.now) }
 {
-    let Some((round, body, behind)) = first_piece(bytes) else {
-        return Ok(None);
-    };
-    match decode(alloc, body) {
-        Ok(body) => Ok(Some((RoundMap { round, body }, behind))),
-        Err(fault) => match fault {
-            MapFault::NoMemory => Err(NoMemory),
-            _ => Ok(None),
-        },
-    }
+    let (round, body, behind) = first_piece(bytes)?;
+    let (head, len) = body_told(body)?;
+    Some((MapHeading { round, head, len }, behind))
 }
 
 /// The round and the body of the record that bytes begin with, whatever that spells, and what stands behind it; `None`

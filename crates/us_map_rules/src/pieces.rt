@@ -1,29 +1,16 @@
-ghost use Rattle.std.specs.Prelude.{◌≡◌, ◌≢◌, ◌↔◌, ◌∷◌, [], ◌<◌, ◌≤◌, List, length, drop, slice_get, IsTrue, IfSome, IfNone, IfOk, OnOk};
-ghost use Rattle.us_slots.specs.UsageCodes as codes;
-ghost use Rattle.us_codec.specs.Elements.{element_of};
-ghost use Rattle.us_codec.specs.Faults.{elements_at};
-ghost use Rattle.us_lawful.specs.declared.judged.RoundMap.{RoundMap};
+ghost use Rattle.std.specs.Prelude.{◌≡◌, ◌↔◌, ◌∷◌, [], ◌<◌, ◌≤◌, false, List, length, drop, slice_get, IsTrue, IfSome, IfNone, IfOk, OnOk};
+ghost use Rattle.us_codec.specs.Faults.{elements_at, ends_list};
+ghost use Rattle.us_lawful.specs.Runs.{RoundMap};
 ghost use Rattle.us_lawful.specs.Regions.{element_regions, map_regions};
 ghost use Rattle.us_map_rules.specs.MapsReading.{IsMapsOf};
 ghost use Rattle.us_map_rules.specs.Pieces.{piece_of};
 ghost use Rattle.us_map_rules.specs.Minislots.{AreSideBySide};
 
+use crate::elements::{Element, first_element};
 use crate::maps_reading::first_piece;
 use crate::regions::Region;
 use us_codec::HEAD_BYTES;
-use us_slots::{Iuc, NoMemory};
-
-/// The greatest offset: it has the lowest 14 of an element's 32 bits (the standard's).
-const MAX_OFFSET: u32 = 0x3fff;
-
-/// The place of the SID in them, from the lowest (the standard's).
-const SID_SHIFT: u32 = 18;
-
-/// The place of the IUC in them (the standard's).
-const IUC_SHIFT: u32 = 14;
-
-/// The greatest IUC: it has 4 bits (the standard's).
-const MAX_IUC: u32 = 0xf;
+use us_slots::NoMemory;
 
 /// Reads the elements before the Null of the MAP whose record these bytes begin with, each of which reaches to the next one,
 /// and answers the length of the record in bytes. Where no record stands in front, there are none. Those are left out that
@@ -63,59 +50,67 @@ fn read_elements(pieces: &mut Vec<Region>, elements: &[u8]) -> Result<(), NoMemo
     ensures read { OnOk result (AreSideBySide 0 (element_regions (elements_at elements.now)) →
         pieces.new.items ≡ element_regions (elements_at elements.now)) }
 {
-    let mut end = 0;
-    let mut rest = elements;
-    while let Some(first) = first_element(rest, end) {
-        pieces.push(first.0)?;
-        end = first.0.end();
-        rest = first.1;
+    let Some(first) = first_element(elements) else {
+        return Ok(());
+    };
+    if first.0.offset() > 0 {
+        return Ok(());
+    }
+    read_from(pieces, first.0, first.1)
+}
+
+/// The same of the first element and the bytes behind it.
+fn read_from(pieces: &mut Vec<Region>, first: Element, behind: &[u8]) -> Result<(), NoMemory>
+    requires none { pieces.old.items ≡ [] }
+    requires start { first.offset ≡ 0 }
+    ensures side { OnOk result (AreSideBySide 0 pieces.new.items) }
+    ensures read { OnOk result (AreSideBySide 0 (element_regions (first ∷ elements_at behind.now)) →
+        pieces.new.items ≡ element_regions (first ∷ elements_at behind.now)) }
+{
+    let mut element = first;
+    let mut rest = behind;
+    while let Some(next) = next_element(element, rest) {
+        pieces.push(region_between(element, next.0))?;
+        element = next.0;
+        rest = next.1;
     }
     Ok(())
 }
 
-/// The first of these elements and the bytes behind it, if it isn't the Null and reaches from this minislot to a later one.
-fn first_element(elements: &[u8], from: u128) -> Option<(Region, &[u8])>
-    ensures some { IfSome result (λ first.
-        (element_regions (elements_at elements.now) ≡ first.0 ∷ element_regions (elements_at first.1.now))
-        × (first.0.start ≡ from) × (0 < first.0.slots) × (length first.1.now < length elements.now)) }
-    ensures none { IfNone result (AreSideBySide from (element_regions (elements_at elements.now)) →
-        element_regions (elements_at elements.now) ≡ []) }
+/// The first of the elements that these bytes spell and the bytes behind it, if this element reaches to it.
+fn next_element(element: Element, bytes: &[u8]) -> Option<(Element, &[u8])>
+    ensures some { IfSome result (λ next.
+        (element_regions (element ∷ elements_at bytes.now) ≡
+        piece_of element next.0 ∷ element_regions (next.0 ∷ elements_at next.1.now))
+        × (element.offset < next.0.offset) × (length next.1.now < length bytes.now)) }
+    ensures none { IfNone result (AreSideBySide element.offset (element_regions (element ∷ elements_at bytes.now)) →
+        element_regions (element ∷ elements_at bytes.now) ≡ []) }
 {
-    let [a, b, c, d, behind @ ..] = elements else {
+    let Some(next) = first_element(bytes) else {
         return None;
     };
-    let [e, f, g, h, ..] = behind else {
-        return None;
-    };
-    let word = u32::from_be_bytes([*a, *b, *c, *d]);
-    let next = u32::from_be_bytes([*e, *f, *g, *h]);
-    let piece = piece_of(word, next);
-    if is_next(piece, from) {
-        Some((piece, behind))
+    if reaches(element, next.0) {
+        Some(next)
     } else {
         None
     }
 }
 
-/// The element of 32 bits, which reaches to that of the next ones.
-#[tactic(auto, unfolding(us_codec::specs::Elements::element_of))]
-fn piece_of(word: u32, next: u32) -> Region
-    ensures { result ≡ piece_of (element_of word) (element_of next) }
+/// Whether an element isn't the Null and the next one stands behind it.
+fn reaches(element: Element, next: Element) -> bool
+    ensures { IsTrue result ↔ ((ends_list element ≡ false) × (element.offset < next.offset)) }
 {
-    let start = word & MAX_OFFSET;
-    Region {
-        start: u64::from(start),
-        slots: u64::from((next & MAX_OFFSET).saturating_sub(start)),
-        sid: u64::from(word >> SID_SHIFT),
-        iuc: u64::from((word >> IUC_SHIFT) & MAX_IUC),
-    }
+    !element.ends_list() && element.offset < next.offset
 }
 
-/// Whether an element isn't the Null and reaches from this minislot to a later one.
-fn is_next(piece: Region, from: u128) -> bool
-    ensures { IsTrue result ↔ ((piece.iuc ≢ codes.null) × (piece.start ≡ from) × (0 < piece.slots)) }
+/// An element, which reaches to the next one.
+fn region_between(element: Element, next: Element) -> Region
+    ensures { result ≡ piece_of element next }
 {
-    piece.iuc != u64::from(Iuc::null().number())
-        && u128::from(piece.start) == from
-        && piece.slots > 0
+    Region {
+        start: u64::from(element.offset),
+        slots: u64::from(next.offset.saturating_sub(element.offset)),
+        sid: u64::from(element.sid),
+        iuc: u64::from(element.iuc),
+    }
 }

@@ -1,64 +1,29 @@
-ghost use Rattle.std.specs.Prelude.{◌≡◌, ◌==◌, ◌<◌, filter_map, option_map, position, length, IfOk, IfSome};
-ghost use Rattle.std.specs.List.Sorted.{IsPermutation, IsNonDecreasingBy};
+ghost use Rattle.std.specs.Prelude.{◌≡◌, ◌==◌, ◌<◌, map, option_map, position, length, IfSome};
+ghost use Rattle.us_flows.specs.Lawful.{AreApart};
 ghost use Rattle.us_lawful.specs.Regions as rule;
+ghost use Rattle.us_map_rules.specs.LackedPlaces as places;
 ghost use Rattle.us_map_rules.specs.RegionLines as spec;
 
 use crate::regions::Region;
-use std::alloc::Global;
 use us_flows::{Channel, Config};
+use us_reports::Place;
 use us_requests::Trace;
 use us_round::{Grant, Row};
-use us_slots::NoMemory;
 
-/// The minislots of a G line, and the number of the MAP that it is for: MAPs are counted by round and then by channel in
-/// table order.
-#[derive(Clone, Copy)]
-pub(crate) struct PlacedRegion {
-    pub(crate) map: u64,
-    pub(crate) region: Region,
-}
-
-/// The minislots of the G lines whose round and channel the run has, by the number of the MAP.
-pub(crate) fn placed_lines(
-    alloc: Global,
-    config: &Config,
-    rounds: u32,
-    lines: &[Row],
-) -> Result<Vec<PlacedRegion>, NoMemory>
-    ensures same { IfOk result (λ placed. IsPermutation (filter_map (spec.placed_line config.now rounds) lines.now) placed.items) }
-    ensures ordered { IfOk result (λ placed. IsNonDecreasingBy (λ p. p.map) placed.items) }
+/// The round and the channel of a G or M line, as a place.
+pub(crate) fn place_told(line: &Row) -> Option<Place>
+    ensures { result ≡ places.place_told line.now }
 {
-    let mut placed = lines_as_they_come(alloc, config, rounds, lines)?;
-    placed.sort_unstable_by_key(|p| p.map);
-    Ok(placed)
-}
-
-/// The same in the order of the lines.
-fn lines_as_they_come(
-    alloc: Global,
-    config: &Config,
-    rounds: u32,
-    lines: &[Row],
-) -> Result<Vec<PlacedRegion>, NoMemory>
-    ensures { IfOk result (λ placed. placed.items ≡ filter_map (spec.placed_line config.now rounds) lines.now) }
-{
-    let mut placed = Vec::new(alloc);
-    for line in lines {
-        if let Some(one) = placed_line(config, rounds, line) {
-            placed.push(one)?;
-        }
-    }
-    Ok(placed)
-}
-
-/// The minislots of a line, if it is a G line whose round and channel the run has.
-pub(crate) fn placed_line(config: &Config, rounds: u32, line: &Row) -> Option<PlacedRegion>
-    ensures { result ≡ spec.placed_line config.now rounds line.now }
-{
-    match line {
-        Row::Granted(grant) if grant.round < u64::from(rounds) => placed_grant(config, grant),
-        _ => None,
-    }
+    let (round, channel) = match line {
+        Row::Granted(grant) => (grant.round, grant.channel),
+        Row::Missed(missed) => (missed.round, missed.channel),
+        Row::Final(_) | Row::Activity(_) | Row::Counts(_) => return None,
+    };
+    Some(Place {
+        round,
+        channel,
+        third: 0,
+    })
 }
 
 /// The number of the MAP that a G line is for, by round and then by channel in table order; `None` of another line, and
@@ -66,31 +31,39 @@ pub(crate) fn placed_line(config: &Config, rounds: u32, line: &Row) -> Option<Pl
 pub fn map_of(config: &Config, trace: &Trace, line: &Row) -> Option<u64>
     ensures { result ≡ option_map (λ one. one.map) (spec.placed_line config.now trace.now.rounds line.now) }
 {
-    match placed_line(config, trace.rounds(), line) {
-        Some(one) => Some(one.map),
-        None => None,
+    match line {
+        Row::Granted(grant) => map_at(config, trace.rounds(), 0, grant.round, grant.channel),
+        _ => None,
     }
 }
 
-/// The minislots of a grant, if the run has its channel.
-fn placed_grant(config: &Config, grant: &Grant) -> Option<PlacedRegion>
-    requires { grant.now.round < 4294967296 }
-    ensures { result ≡ spec.placed_grant config.now grant.now }
+/// The number of the MAP of a round and of the channel with this id, if the run has both. The channel is looked for first
+/// in the place `near` of the table.
+pub(crate) fn map_at(
+    config: &Config,
+    rounds: u32,
+    near: usize,
+    round: u64,
+    channel: u64,
+) -> Option<u64>
+    ensures { result ≡ spec.map_at config.now rounds round channel }
 {
-    match place_of(config.channels(), grant.channel) {
-        Some(place) => Some(PlacedRegion {
-            map: map_number(config, grant.round, place),
-            region: region_of(grant),
-        }),
-        None => None,
+    if round >= u64::from(rounds) {
+        return None;
     }
+    let place = place_near(config.channels(), near, channel)?;
+    Some(map_number(config, round, place))
 }
 
-/// The place in the table of the channel with this id.
-fn place_of(channels: &[Channel], id: u64) -> Option<usize>
+/// The place in the table of the channel with this id, looked for first in the place `near`.
+fn place_near(channels: &[Channel], near: usize, id: u64) -> Option<usize>
+    requires { AreApart (map (λ c. c.id) channels.now) }
     ensures value { result ≡ position (λ channel. channel.id == id) channels.now }
     ensures inside { IfSome result (λ place. place < length channels.now) }
 {
+    if near < channels.len() && u64::from(channels[near].id) == id {
+        return Some(near);
+    }
     channels
         .iter()
         .position(|channel| u64::from(channel.id) == id)
@@ -106,7 +79,7 @@ fn map_number(config: &Config, round: u64, place: usize) -> u64
 }
 
 /// The minislots of a grant.
-fn region_of(grant: &Grant) -> Region
+pub(crate) fn region_of(grant: &Grant) -> Region
     ensures { result ≡ rule.region_of grant.now }
 {
     Region {

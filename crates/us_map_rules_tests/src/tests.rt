@@ -1,8 +1,7 @@
-//! What no clause says: maps files as bytes, what is answered of runs at their edges, and memory that is refused.
+//! What no clause says: maps files as bytes, and what is answered of runs at their edges.
 
 mod base;
 mod files;
 mod headings;
-mod memory;
 mod minislots;
 mod places;

@@ -44,8 +44,19 @@ pub fn verdict_with(
     maps: &[u8],
     report: &str,
 ) -> Result<Verdict, CheckFault> {
+    verdict_in(alloc, tables, ROUNDS, maps, report)
+}
+
+/// The same in so many rounds.
+pub fn verdict_in(
+    alloc: Global,
+    tables: &str,
+    rounds: u32,
+    maps: &[u8],
+    report: &str,
+) -> Result<Verdict, CheckFault> {
     match Config::read(alloc, tables.as_bytes()) {
-        Ok(config) => verdict_of(alloc, &config, maps, report),
+        Ok(config) => verdict_of(alloc, &config, rounds, maps, report),
         Err(_) => Err(CheckFault::NoMemory),
     }
 }
@@ -54,13 +65,14 @@ pub fn verdict_with(
 fn verdict_of(
     alloc: Global,
     config: &Config,
+    rounds: u32,
     maps: &[u8],
     report: &str,
 ) -> Result<Verdict, CheckFault> {
-    if !config.rounds_fit(ROUNDS) {
+    if !config.rounds_fit(rounds) {
         return Err(CheckFault::NoMemory);
     }
-    match Trace::read(alloc, &mut FromRead::new(requests()), config, ROUNDS) {
+    match Trace::read(alloc, &mut FromRead::new(requests()), config, rounds) {
         Ok(trace) => check(alloc, config, &trace, maps, report.as_bytes()),
         Err(_) => Err(CheckFault::NoMemory),
     }

@@ -1,12 +1,15 @@
+ghost use Rattle.std.specs.Prelude.{◌≡◌, true};
+ghost use Rattle.us_flows.specs.Tables.{rounds_fit};
+
 use std::alloc::Global;
 use std::process::Abort;
 use us_credit_rules::{
-    activities_breach, counts_breach, credits_breach, finals_breach, lines_of_report, rates_breach,
+    CreditLines, activities_breach, counts_breach, credits_breach, finals_breach, rates_breach,
 };
 use us_flows::Config;
-use us_lawful::Judged;
 use us_reports::{Place, report_rows};
 use us_requests::Trace;
+use us_round::Row;
 use us_samples::{base, put_channel};
 use us_slots::{FromRead, NoMemory};
 
@@ -117,13 +120,16 @@ pub fn compare(rt: &impl Abort, alloc: Global, rule: Rule, cases: &[Case]) {
     }
 }
 
-/// Where a report fails first; nothing where it can't be judged, as where memory is refused.
+/// Where a report fails first; nothing where it can't be judged: a line isn't due, or memory is refused.
 pub fn judge(alloc: Global, rule: Rule, report: &str) -> Option<Option<Place>> {
     let config = config_of(alloc)?;
     let trace = trace_of(alloc, &config)?;
     let lines = report_rows(alloc, report.as_bytes()).ok()?;
-    let judged = Judged::new(Vec::new(alloc), lines);
-    answer(alloc, rule, &config, &trace, &judged).ok()
+    if !config.rounds_fit(trace.rounds()) {
+        return None;
+    }
+    let kept = kept_of(alloc, &config, &trace, &lines)?;
+    answer(alloc, rule, &config, &trace, &kept).ok()
 }
 
 fn config_of(alloc: Global) -> Option<Config> {
@@ -142,22 +148,39 @@ fn trace_of(alloc: Global, config: &Config) -> Option<Trace> {
     Trace::read(alloc, &mut source, config, ROUNDS).ok()
 }
 
+/// What is kept of lines; nothing where one isn't due, or memory is refused.
+fn kept_of<'a>(
+    alloc: Global,
+    config: &'a Config,
+    trace: &Trace,
+    lines: &[Row],
+) -> Option<CreditLines<'a>>
+    requires { rounds_fit config.now trace.now.rounds ≡ true }
+{
+    let mut kept = CreditLines::new(alloc, config, trace).ok()?;
+    for line in lines {
+        if !kept.is_due(line) {
+            return None;
+        }
+        kept.take(config, trace, line);
+    }
+    Some(kept)
+}
+
 fn answer(
     alloc: Global,
     rule: Rule,
     config: &Config,
     trace: &Trace,
-    judged: &Judged,
-) -> Result<Option<Place>, NoMemory> {
-    if !config.rounds_fit(trace.rounds()) {
-        return Err(NoMemory);
-    }
-    let lines = lines_of_report(alloc, config, trace, judged)?;
+    kept: &CreditLines,
+) -> Result<Option<Place>, NoMemory>
+    requires { rounds_fit config.now trace.now.rounds ≡ true }
+{
     match rule {
-        Rule::Rates => Ok(rates_breach(config, &lines)),
-        Rule::Credits => Ok(credits_breach(config, &lines)),
-        Rule::Finals => finals_breach(alloc, config, trace, &lines),
-        Rule::Activities => activities_breach(alloc, config, trace, &lines),
-        Rule::Counts => Ok(counts_breach(trace, &lines)),
+        Rule::Rates => Ok(rates_breach(config, kept)),
+        Rule::Credits => Ok(credits_breach(config, kept)),
+        Rule::Finals => finals_breach(alloc, config, trace, kept),
+        Rule::Activities => activities_breach(alloc, config, trace, kept),
+        Rule::Counts => Ok(counts_breach(trace, kept)),
     }
 }

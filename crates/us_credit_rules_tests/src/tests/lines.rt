@@ -1,4 +1,4 @@
-use super::base::{Case, Rule, compare};
+use super::base::{Case, Rule, compare, judge};
 
 /// Lines of requests that are right, each for itself and for the sum of its cluster.
 static RIGHT: [Case; 4] = [
@@ -65,7 +65,7 @@ static SEVERAL: [Case; 5] = [
     ),
     // by round, and in a round by channel
     (
-        "G,2,1,req,2,0,0,1,1,0,1,1\nG,1,2,req,2,0,0,1,1,0,1,1\nG,1,1,req,3,0,0,1,1,0,1,1\n",
+        "G,1,2,req,2,0,0,1,1,0,1,1\nG,1,1,req,3,0,0,1,1,0,1,1\nG,2,1,req,2,0,0,1,1,0,1,1\n",
         Some((1, 1, 3)),
     ),
     // and by id
@@ -80,4 +80,11 @@ static SEVERAL: [Case; 5] = [
 #[test]
 fn several(rt: HostRuntime) {
     compare(&rt, rt.alloc(), Rule::Credits, &SEVERAL);
+}
+
+/// A line of a request isn't due behind one of a later round; others are.
+#[test]
+fn due(rt: HostRuntime) {
+    let late = "G,2,1,req,7,0,0,301,9,0,2,20\nG,1,1,req,7,0,0,301,9,0,2,20\n";
+    assert_eq!(rt; judge(rt.alloc(), Rule::Counts, late), None);
 }

@@ -1,15 +1,15 @@
 use super::base::{Rule, judge};
 use us_reports::Place;
 
-/// So many lines that what is kept of them grows several times; a cluster without its F line, a flow without its A line,
+/// Lines of requests; a cluster without its F line, a flow without its A line,
 /// and no U line.
 const REPORT: &str = "\
-G,2,1,req,7,0,0,301,9,0,2,20
-G,2,2,req,7,0,0,300,9,0,2,20
 G,1,1,req,7,1,0,303,9,0,2,20
 G,1,1,req,7,0,0,301,9,0,2,20
 G,1,2,req,7,1,0,302,9,0,2,20
 G,1,2,req,7,0,0,300,9,0,2,500
+G,2,1,req,7,0,0,301,9,0,2,20
+G,2,2,req,7,0,0,300,9,0,2,20
 F,1,0,1000,-
 F,7,0,80,0
 A,5,1

@@ -9,7 +9,7 @@ static CASES: [Case; 6] = [
     ("G,1,1,req,7,1,0,303,9,0,3,51\n", Some((1, 0, 7))),
     // a round that asks for 40 more, which were credited in the round before
     (
-        "G,2,1,req,7,0,0,301,9,0,2,1\nG,1,2,req,7,0,0,300,10,0,21,640\n",
+        "G,1,2,req,7,0,0,300,10,0,21,640\nG,2,1,req,7,0,0,301,9,0,2,1\n",
         Some((1, 0, 7)),
     ),
     // over both rounds

@@ -2,13 +2,12 @@ use std::alloc::Global;
 use std::fmt::Debug;
 use std::process::Abort;
 use us_flows::Config;
-use us_lawful::Judged;
-use us_map_rules::{MapsFault, headings_breach, places_breach};
-use us_reports::Place;
+use us_map_rules::{MapRegions, MapsFault, Taken, headings_breach};
+use us_reports::{Place, earlier};
 use us_requests::Trace;
 use us_round::Row;
 use us_samples::put_channel;
-use us_slots::FromRead;
+use us_slots::{FromRead, NoMemory};
 
 /// The one assertion of these tests, since each costs the proof of the function that it stands in. `place` says where
 /// in a test.
@@ -42,20 +41,30 @@ fn trace_of(alloc: Global, config: &Config) -> Option<Trace> {
 }
 
 /// The first MAP of a file that isn't that of a run with these channels.
-pub fn heading_of(alloc: Global, channels: &[u8], file: &[u8]) -> Result<Option<Place>, MapsFault> {
-    let config = config_of(alloc, channels).ok_or(MapsFault::NoMemory)?;
-    let trace = trace_of(alloc, &config).ok_or(MapsFault::NoMemory)?;
+pub fn heading_of(
+    alloc: Global,
+    channels: &[u8],
+    file: &[u8],
+) -> Result<Result<Option<Place>, MapsFault>, NoMemory> {
+    let config = config_of(alloc, channels).ok_or(NoMemory)?;
+    let trace = trace_of(alloc, &config).ok_or(NoMemory)?;
     if config.rounds_fit(trace.rounds()) {
-        headings_breach(alloc, &config, &trace, file)
+        Ok(headings_breach(&config, &trace, file))
     } else {
-        Err(MapsFault::NoMemory)
+        Err(NoMemory)
     }
 }
 
 /// The first place of these lines that a run with these channels lacks.
-pub fn place_of(alloc: Global, channels: &[u8], lines: &[Row]) -> Result<Option<Place>, MapsFault> {
-    let judged = Judged::new(Vec::new(alloc), Vec::from_slice(alloc, lines)?);
-    let config = config_of(alloc, channels).ok_or(MapsFault::NoMemory)?;
-    let trace = trace_of(alloc, &config).ok_or(MapsFault::NoMemory)?;
-    Ok(places_breach(&config, &trace, &judged))
+pub fn place_of(alloc: Global, channels: &[u8], lines: &[Row]) -> Result<Option<Place>, NoMemory> {
+    let config = config_of(alloc, channels).ok_or(NoMemory)?;
+    let trace = trace_of(alloc, &config).ok_or(NoMemory)?;
+    let mut regions = MapRegions::new(alloc);
+    let mut first = None;
+    for line in lines {
+        if let Taken::Lacked(place) = regions.take(&config, &trace, &[], line)? {
+            first = earlier(config.channels(), first, Some(place));
+        }
+    }
+    Ok(first)
 }

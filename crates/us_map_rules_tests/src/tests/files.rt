@@ -1,15 +1,12 @@
 use super::base::{STORED, heading_of, same};
 use std::alloc::Global;
-use std::fmt;
 use us_map_rules::MapsFault;
 use us_reports::Place;
+use us_slots::NoMemory;
 
 /// The number of the first MAP that isn't that of the stored run, which is of one channel.
-pub fn number_of(alloc: Global, file: &[u8]) -> Result<Option<u64>, MapsFault> {
-    match heading_of(alloc, &[1], file)? {
-        Some(place) => Ok(Some(place.third)),
-        None => Ok(None),
-    }
+fn number_of(alloc: Global, file: &[u8]) -> Result<Result<Option<u64>, MapsFault>, NoMemory> {
+    Ok(heading_of(alloc, &[1], file)?.map(|first| first.map(|place| place.third)))
 }
 
 /// A front of a file is one only where it ends behind a record.
@@ -21,9 +18,11 @@ fn every_prefix(rt: HostRuntime) {
             0 => Ok(Some(0)),
             34 => Ok(Some(1)),
             72 => Ok(None),
-            _ => Err(MapsFault::Record(if end < 34 { 0 } else { 1 })),
+            _ => Err(MapsFault {
+                record: if end < 34 { 0 } else { 1 },
+            }),
         };
-        same(&rt, &(end, found), &(end, wanted), "a prefix");
+        same(&rt, &(end, found), &(end, Ok(wanted)), "a prefix");
     }
 }
 
@@ -45,9 +44,9 @@ fn with_byte(alloc: Global, place: usize) -> u8 {
         third: number,
     };
     match heading_of(alloc, &[1], &file) {
-        Ok(None) => b'.',
-        Ok(first) if first == Some(there) => b'H',
-        Err(fault) if fault == MapsFault::Record(number) => b'R',
+        Ok(Ok(None)) => b'.',
+        Ok(Ok(first)) if first == Some(there) => b'H',
+        Ok(Err(fault)) if fault.record == number => b'R',
         _ => b'?',
     }
 }
@@ -60,23 +59,14 @@ fn every_byte(rt: HostRuntime) {
     }
 }
 
-/// The texts of both faults, one a line.
-fn text_of_faults(alloc: Global) -> Result<String, fmt::Error> {
-    let mut text = String::new(alloc);
-    writeln!(text, "{}", MapsFault::Record(4))?;
-    writeln!(text, "{}", MapsFault::NoMemory)?;
-    Ok(text)
-}
-
-const TEXTS: &str = "\
-record 4 is none of a maps file
-out of memory
-";
-
 #[test]
-fn texts_of_maps_faults(rt: HostRuntime) {
-    match text_of_faults(rt.alloc()) {
-        Ok(text) => same(&rt, &text.as_str(), &TEXTS, "faults"),
-        Err(_) => same(&rt, &"no memory", &"faults", "faults"),
-    }
+fn text_of_a_maps_fault(rt: HostRuntime) {
+    let text = format!(in rt.alloc(); "{}", MapsFault { record: 4 });
+    let wanted = "record 4 is none of a maps file";
+    same(
+        &rt,
+        &text.is_ok_and(|text| text.as_str() == wanted),
+        &true,
+        "a fault",
+    );
 }

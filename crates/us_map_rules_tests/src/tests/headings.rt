@@ -1,7 +1,7 @@
 use super::base::{heading_of, same};
 use std::alloc::{AllocError, Global};
-use us_map_rules::MapsFault;
 use us_reports::Place;
+use us_slots::NoMemory;
 
 /// The channels of the run, in the order of its table.
 const CHANNELS: [u8; 2] = [5, 2];
@@ -23,18 +23,20 @@ fn file_of(alloc: Global, maps: &[(u8, u8)]) -> Result<Vec<u8>, AllocError> {
 }
 
 /// The number of the first of these MAPs that isn't that of the run.
-fn number_of(alloc: Global, maps: &[(u8, u8)]) -> Result<Option<u64>, MapsFault> {
+fn number_of(alloc: Global, maps: &[(u8, u8)]) -> Result<Option<u64>, NoMemory> {
     let file = file_of(alloc, maps)?;
     match heading_of(alloc, &CHANNELS, &file)? {
-        Some(
-            Place {
-                round: 0,
-                channel: 0,
-                third,
-            },
+        Ok(
+            Some(
+                Place {
+                    round: 0,
+                    channel: 0,
+                    third,
+                },
+            ),
         ) => Ok(Some(third)),
-        Some(_) => Err(MapsFault::Record(0)),
-        None => Ok(None),
+        Ok(None) => Ok(None),
+        _ => Ok(Some(u64::MAX)),
     }
 }
 

@@ -1,7 +1,7 @@
 use std::alloc::Global;
 use std::process::Abort;
 use us_flows::{Config, ConfigFault};
-use us_map_rules::regions_breach;
+use us_map_rules::{MapRegions, Taken};
 use us_reports::{Place, report_rows};
 use us_requests::Trace;
 use us_samples::{base, put_channel};
@@ -43,12 +43,18 @@ fn compare(rt: &impl Abort, alloc: Global, config: &Config, cases: &[Case<'_>]) 
     }
 }
 
-/// Where a case is broken; nothing where it can't be judged, as where memory is refused.
+/// Where a case is broken; nothing where it can't be judged: where memory is refused, or a line comes too late.
 fn judge(alloc: Global, config: &Config, case: &Case<'_>) -> Option<Option<Place>> {
     let trace = empty_trace(alloc, config)?;
     let file = file_of(alloc, case)?;
     let lines = report_rows(alloc, case.report.as_bytes()).ok()?;
-    regions_breach(alloc, config, &trace, &file, &lines).ok()
+    let mut regions = MapRegions::new(alloc);
+    for line in &lines {
+        if matches!(regions.take(config, &trace, &file, line).ok()?, Taken::Late) {
+            return None;
+        }
+    }
+    regions.breach(config, &trace, &file).ok()
 }
 
 /// The trace of no request, for two rounds.
@@ -243,17 +249,11 @@ fn of_two_channels(rt: HostRuntime) -> Result<(), ConfigFault> {
         report: LINE,
         answer: None,
     };
-    let any_order = Case {
-        name: "a line of a MAP before that of another line",
+    let all = Case {
+        name: "a grant in each MAP but the first",
         maps: &[QUIET, GRANTED, GRANTED, GRANTED],
-        report: "G,1,1,req,1,0,0,291,10,0,32,1000\nG,1,2,req,1,0,0,291,10,0,32,1000\nG,0,1,req,1,0,0,291,10,0,32,1000\n",
+        report: "G,0,1,req,1,0,0,291,10,0,32,1000\nG,1,2,req,1,0,0,291,10,0,32,1000\nG,1,1,req,1,0,0,291,10,0,32,1000\n",
         ..lawful
-    };
-    let any_order_broken = Case {
-        name: "and one of a minislot more",
-        report: "G,1,1,req,1,0,0,291,10,0,32,1000\nG,1,2,req,1,0,0,291,10,0,33,1000\nG,0,1,req,1,0,0,291,10,0,32,1000\n",
-        answer: Some((1, 2, 0)),
-        ..any_order
     };
     let other_channel = Case {
         name: "a line on the other channel",
@@ -277,15 +277,22 @@ fn of_two_channels(rt: HostRuntime) -> Result<(), ConfigFault> {
         &rt,
         rt.alloc(),
         text.as_str(),
-        &[
-            lawful,
-            any_order,
-            any_order_broken,
-            other_channel,
-            both,
-            earlier,
-        ],
+        &[lawful, all, other_channel, both, earlier],
     )
+}
+
+/// A line of a MAP before that of another line isn't told.
+#[test]
+fn late_line(rt: HostRuntime) -> Result<(), ConfigFault> {
+    let late = Case {
+        name: "a line of the first MAP behind one of the second",
+        maps: &[QUIET, GRANTED],
+        report: "G,1,1,req,1,0,0,291,10,0,32,1000\nG,0,1,req,1,0,0,291,10,0,32,1000\n",
+        answer: None,
+    };
+    let config = Config::read(rt.alloc(), base().as_bytes())?;
+    assert_eq!(rt; judge(rt.alloc(), &config, &late), None);
+    Ok(())
 }
 
 /// A maintenance reserve of 3 minislots in every other round.

@@ -1,8 +1,8 @@
 use super::base::{place_of, same};
 use std::alloc::{AllocError, Global};
-use us_map_rules::MapsFault;
 use us_reports::Place;
 use us_round::{EntryWord, FinalActivity, FinalState, Grant, MissedOccurrence, Row, TraceCounts};
+use us_slots::NoMemory;
 
 /// The channels of the run of 2 rounds, in the order of its table.
 const CHANNELS: [u8; 2] = [5, 2];
@@ -67,7 +67,7 @@ fn lines_at(alloc: Global, places: &[(u64, u64)]) -> Result<Vec<Row>, AllocError
 }
 
 /// The first of these places that the run lacks.
-fn first_of(alloc: Global, places: &[(u64, u64)]) -> Result<Option<Place>, MapsFault> {
+fn first_of(alloc: Global, places: &[(u64, u64)]) -> Result<Option<Place>, NoMemory> {
     let lines = lines_at(alloc, places)?;
     place_of(alloc, &CHANNELS, &lines)
 }

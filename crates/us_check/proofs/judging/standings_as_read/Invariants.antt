@@ -1,10 +1,10 @@
-use Rattle.std.proofs.Common.{◌≡◌, ◌-◌, length}
-use Rattle.us_check.specs.Judges.{lines_there}
-use Rattle.us_check.proofs.ReadingLemmas.{IsReadTo}
+use Rattle.std.proofs.Common.{◌-◌, length}
+use Rattle.us_check.proofs.ReadingLemmas.{AreStandingsOf, IsReadTo}
 use Rattle.us_check.proofs.judging.standings_as_read.Given as goal
 
 abbrev pub invariant-loop-at : goal.invariant-loop-at
-invariant-loop-at l = IsReadTo (λ lines. lines_there l.report l.standings.items ≡ lines) l.report (length l.standings.items) l.at
+invariant-loop-at l = IsReadTo (AreStandingsOf l.config l.trace.rounds l.report l.standings.items) l.report
+    (length l.standings.items) l.at
 
 abbrev pub decreases-loop-at : goal.decreases-loop-at
 decreases-loop-at l = length l.report - l.at

@@ -9,4 +9,4 @@ returns-in-None c = λ ms lines told.
 pub returns-then-branch : goal.returns-then-branch
 returns-then-branch c = λ ms lines told.
     rw (line_some c.args.report.now c.args.at c.in-Some.row _ c.in-Some.ensures)
-    (c.in_ok-take-in-Some.ensures c.if-branch.true ms lines told)
+    (c.in_ok-take-in-Some.ensures.told c.if-branch.true ms lines told)

@@ -1,5 +1,5 @@
 use Rattle.std.proofs.Common.{◌-◌, length, List, []}
-use Rattle.us_lawful.specs.declared.judged.RoundMap.{RoundMap}
+use Rattle.us_lawful.specs.Runs.{RoundMap}
 use Rattle.us_check.specs.Judges.{AreTold}
 use Rattle.us_check.proofs.ReadingLemmas.{IsReadTo}
 use Rattle.us_check.proofs.judging.take_in_order.Given as goal

@@ -1,5 +1,5 @@
 use Rattle.std.proofs.Common.{List, [], take}
-use Rattle.us_lawful.specs.declared.judged.RoundMap.{RoundMap}
+use Rattle.us_lawful.specs.Runs.{RoundMap}
 use Rattle.us_check.specs.Judges.{AreTold, lines_there}
 use Rattle.us_check.proofs.judging.take_sorted.Given as goal
 

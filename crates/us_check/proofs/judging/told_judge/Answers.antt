@@ -20,7 +20,7 @@ take_sorted-requires c =
 pub returns : goal.returns
 returns c = λ ms is.
     let sorted : List Standing = c.in_ok-standings.standings.items in
-    let stand : AreStandings c.args.report.now sorted = c.in_ok-standings.ensures in
+    let stand : AreStandings c.args.config.now c.args.trace.now.rounds c.args.report.now sorted = c.in_ok-standings.ensures in
     record {
       lines = lines_there c.args.report.now stand.read;
       told = lines_there c.args.report.now sorted;

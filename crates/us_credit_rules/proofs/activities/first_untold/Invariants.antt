@@ -1,8 +1,9 @@
-use Rattle.std.proofs.Common.{take}
-use Rattle.us_reports.specs.Breaches.{IsFirstFailure, Any}
-use Rattle.us_credit_rules.specs.Activities.{IsUntold}
+use Rattle.std.proofs.Common.{◌≡◌, take}
+use Rattle.us_credit_rules.specs.Ends.{first_of}
+use Rattle.us_credit_rules.specs.Activities.{talker_place}
 use Rattle.us_credit_rules.proofs.activities.first_untold.Given as goal
 
-abbrev pub invariant-loop-activity : goal.invariant-loop-activity
-invariant-loop-activity l =
-    IsFirstFailure l.channels (Any (IsUntold l.rounds l.told.told.items) (take l.activity-index l.wanted)) l.first
+abbrev pub invariant-loop-talker : goal.invariant-loop-talker
+invariant-loop-talker l =
+    l.first ≡ first_of l.channels (talker_place l.activities l.rounds l.talkers.told.told.items)
+    (take l.talker-index l.talkers.all.items)

@@ -1,10 +1,8 @@
-use Rattle.std.proofs.Common.{◌≡◌, ◌++◌, drop, map}
-use Rattle.us_flows.specs.Clusters.{Turn}
+use Rattle.std.proofs.Common.{◌≡◌, map, take}
+use Rattle.us_flows.specs.Tables.{FlowTable}
 use Rattle.us_credit_rules.specs.Buckets.{full_account}
 use Rattle.us_credit_rules.proofs.buckets.full_flows.Given as goal
 
-abbrev pub invariant-loop-seat : goal.invariant-loop-seat
-invariant-loop-seat l =
-    l.flows.items ++ map (λ (turn : Turn). full_account turn.cluster.flow.rate turn.cluster.flow.burst)
-    (drop l.seat-index l.seat-items)
-    ≡ map (λ (turn : Turn). full_account turn.cluster.flow.rate turn.cluster.flow.burst) l.seats
+abbrev pub invariant-loop-flow : goal.invariant-loop-flow
+invariant-loop-flow l =
+    l.accounts.items ≡ map (λ (flow : FlowTable). full_account flow.rate flow.burst) (take l.flow-index l.flows)

@@ -4,7 +4,10 @@ use Rattle.us_lawful.proofs.SameLemmas.{same_moved}
 use Rattle.us_reports.proofs.BreachLemmas.{both_tests, holds_first}
 use Rattle.us_lawful.specs.Runs.{requested_in}
 use Rattle.us_credit_rules.proofs.KeptLemmas.{requests_moved}
+use Rattle.us_credit_rules.specs.Ends.{first_of}
+use Rattle.us_credit_rules.specs.Ledgers.{sum_place}
 use Rattle.us_credit_rules.proofs.RepeatLemmas.{lines_first}
+use Rattle.us_credit_rules.proofs.RuleLemmas.{sums_first}
 use Rattle.us_credit_rules.proofs.credits.credits_breach.Goals as goal
 
 pub returns : goal.returns
@@ -14,7 +17,7 @@ returns c = λ v judged are.
     let kept = c.args.lines.now in
     let wrong = lines_first t v judged.lines (requested_in are.0) kept.requests.repeats.first c.channels.ensures.lawful
     (requests_moved judged.lines are.0 (same_moved judged.lines are.0 are.1)) are.2.requests.wrong in
-    rw (c.earlier.ensures, c.channels.ensures.value)
+    rw (c.earlier.ensures, c.channels.ensures.value, c.first_sum-sum.ensures)
     (holds_first t.channels (credits_hold run judged) _
     (both_tests t.channels (credit_lines_hold run judged) (sums_hold run judged) kept.requests.repeats.first
-    c.first_sum-sum.result wrong (c.first_sum-sum.ensures v judged are)))
+    (first_of t.channels (sum_place kept.requests.ledger.accounts.items) kept.seats) wrong (sums_first t v judged kept are)))

@@ -1,12 +1,10 @@
-use Rattle.std.proofs.Common.{take}
-use Rattle.us_lawful.specs.Runs.{Judged, run_in}
-use Rattle.us_reports.specs.Breaches.{IsFirstFailure, Any}
-use Rattle.us_credit_rules.specs.CreditLines.{AreCreditLines}
-use Rattle.us_credit_rules.specs.LastLines.{IsWrong}
+use Rattle.std.proofs.Common.{◌≡◌, take}
+use Rattle.us_credit_rules.specs.Ends.{first_of}
+use Rattle.us_credit_rules.specs.LastLines.{final_place}
 use Rattle.us_credit_rules.proofs.finals.first_wrong.Given as goal
 
-abbrev pub invariant-loop-place : goal.invariant-loop-place
-invariant-loop-place l =
-    (judged : Judged) → AreCreditLines l.config l.trace judged.lines l.lines →
-    IsFirstFailure l.config.channels
-    (Any (IsWrong (run_in l.config l.trace) judged.lines) (take l.place l.seat-items)) l.first
+abbrev pub invariant-loop-seat : goal.invariant-loop-seat
+invariant-loop-seat l =
+    l.first ≡ first_of l.config.channels
+    (final_place l.time.rounds l.time.round_ticks l.asked l.lines.requests l.lines.finals.told.items)
+    (take l.seat-index l.seat-items)

@@ -6,8 +6,8 @@ use Rattle.us_credit_rules.specs.CreditLines.{AreCreditLines}
 use Rattle.us_credit_rules.proofs.RuleLemmas.{rate_test}
 use Rattle.us_credit_rules.proofs.rates.rates_breach.Given as goal
 
-abbrev pub invariant-loop-flow : goal.invariant-loop-flow
-invariant-loop-flow l =
+abbrev pub invariant-loop-place : goal.invariant-loop-place
+invariant-loop-place l =
     (v : TraceAsks) (judged : Judged) → AreCreditLines l.config v judged.lines l.lines →
     IsFirstFailure l.config.channels
-    (Any (λ flow p. rate_test (run_in l.config v) judged flow p ≡ false) (take l.flow-index l.flow-items)) l.first
+    (Any (λ flow p. rate_test (run_in l.config v) judged flow p ≡ false) (take l.place l.flow-items)) l.first

@@ -1,11 +1,11 @@
 use Rattle.std.proofs.Common.{rules, ◌≡◌, [], ◌∷◌, ◌++◌, cond, false, true, length, ap, refl, subst, sym, ◌∙◌}
-use Rattle.us_flows.specs.Clusters.{table_order}
+use Rattle.us_flows.specs.Clusters.{table_order, words_of}
 use Rattle.us_output.specs.declared.rows.FinalState.{FinalState}
 use Rattle.us_output.specs.declared.rows.Row.TheVariants as rows
 use Rattle.us_lawful.specs.Runs.{activities_in, counts_in, finals_in, requested_in}
 use Rattle.us_reports.specs.Rows.{is_requested}
 use Rattle.us_credit_rules.specs.Requests.{AreRequests}
-use Rattle.us_credit_rules.specs.Seats.{place_of}
+use Rattle.us_credit_rules.specs.Seats.{word_of}
 use Rattle.us_credit_rules.specs.Tellings.{told_more}
 use Rattle.us_credit_rules.proofs.KeptLemmas.{same_counts, same_finals, same_requests, same_talkers, with_line}
 use Rattle.us_credit_rules.proofs.TellingLemmas.{line_told, told_push}
@@ -39,13 +39,14 @@ returns-in-Final-clause-kept c = λ lines are.
     let v = c.args.trace.now in
     let kept = c.args.self.now in
     let state = c.in-Final.state in
-    let place : c.map-cluster.result ≡ place_of state.flow state.cluster (table_order t) = search rules in
+    let word : c.word-cluster.result ≡ word_of state.flow state.cluster (table_order t) =
+    c.word-cluster.ensures ∙ ap (word_of state.flow state.cluster) are.seats in
     rw c.in-Final.is
     (with_line t v lines kept are (rows.Final state) _ refl (same_requests t v lines kept are)
-    (line_told t.channels v.rounds (length (table_order t)) (λ (f : FinalState). f.flow)
-    (λ f. place_of f.flow f.cluster (table_order t)) (finals_in lines) kept.finals c.take-in-Final.new.self state
-    (rw place at c.take-in-Final.ensures.told)
-    (rw (place, c.channels-channels.ensures.value, c.rounds.ensures.value) at c.take-in-Final.ensures.strange) are.finals)
+    (line_told t.channels v.rounds (length (words_of t)) (λ (f : FinalState). f.flow)
+    (λ f. word_of f.flow f.cluster (table_order t)) (finals_in lines) kept.finals c.take-in-Final.new.self state
+    (rw word at c.take-in-Final.ensures.told)
+    (rw (word, c.channels-channels.ensures.value, c.rounds.ensures.value) at c.take-in-Final.ensures.strange) are.finals)
     (same_talkers t v lines kept are) (same_counts t v lines kept are))
 
 pub returns-then-eq-clause-kept : goal.returns-then-eq-clause-kept

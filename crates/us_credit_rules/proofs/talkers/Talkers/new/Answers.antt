@@ -13,9 +13,10 @@ pub returns : goal.returns
 returns c = λ v.
     let t = c.args.config.now in
     record {
+      all = c.in_ok-all.ensures;
       ids = λ id.
           c.in_ok-ids.ensures id
-          ∙ ap (list_any (λ (talker : Talker). talker.id == id)) (c.deref.ensures.value ∙ c.in_ok-talkers.ensures)
+          ∙ ap (list_any (λ (talker : Talker). talker.id == id)) (c.deref.ensures.value ∙ c.in_ok-all.ensures)
           ∙ any_talker id (talking t);
       told = none_told t.channels v.rounds (length c.in_ok-ids.ids.items) (λ (a : FinalActivity). a.flow)
           (λ a. talker_at t a.flow) c.in_ok-told.told

@@ -23,6 +23,7 @@ returns c = λ t v lines channels rounds are.
       | else-known w ↦ w.talker-is ∙ ap (λ b. if b then Some line.flow else None) (sym w.if-known.false ∙ known)
     ] in
     record {
+      all = are.all;
       ids = are.ids;
       told = line_told t.channels v.rounds (length kept.ids.items) (λ (a : FinalActivity). a.flow) (λ a. talker_at t a.flow)
           lines kept.told c.take.new.self line (rw talker at c.take.ensures.told)

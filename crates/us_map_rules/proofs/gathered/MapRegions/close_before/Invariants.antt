@@ -1,6 +1,6 @@
 use Rattle.std.proofs.Common.{ℕ, List, ◌-◌, ◌*◌, ◌≤◌, length}
-use Rattle.us_lawful.specs.declared.judged.RoundMap.{RoundMap}
-use Rattle.us_map_rules.specs.declared.region_lines.PlacedRegion.{PlacedRegion}
+use Rattle.us_lawful.specs.Runs.{RoundMap}
+use Rattle.us_map_rules.specs.RegionLines.{PlacedRegion}
 use Rattle.us_map_rules.specs.Gathered.{IsStateOf}
 use Rattle.us_map_rules.proofs.gathered.MapRegions.close_before.Given as goal
 
