@@ -8,7 +8,7 @@ use Rattle.us_flows.specs.declared.channels.Channel.{Channel}
 use Rattle.us_reports.specs.declared.place.Place.{Place}
 use Rattle.us_reports.specs.Order.{goes_before, earlier}
 use Rattle.us_reports.specs.Breaches.{IsFirstBreach, IsFirstFailure, At, Either, Any}
-use Rattle.us_reports.proofs.OrderLemmas.{place-is, before-self, before-asym, before-joins, before-trans, before-through}
+use Rattle.us_reports.proofs.OrderLemmas.{place-is, before-self, before-asym, before-joins}
 
 -- One part.
 
@@ -141,14 +141,6 @@ one_more channels F xs i x d best one inside is of_xs of_x =
     rw add-one (take-suc xs i d inside ∙ ap (λ y. take i xs ++ y ∷ []) (sym is)) in
     rw more (one_behind channels F (take i xs) x best one of_xs of_x)
 
--- the same for `search`, where the item is read at its index
-pub one_next : {X : Type 0} (channels : List Channel) (F : X → Place → Type 0) (xs : List X) (i : ℕ) (d : X)
-    (best one next : Option Place) → next ≡ earlier channels best one →
-    IsFirstFailure channels (Any F (take i xs)) best → IsFirstFailure channels (F (get_or xs i d)) one → i < length xs →
-    IsFirstFailure channels (Any F (take (i + 1) xs)) next
-one_next channels F xs i d best one next is of_xs of_x inside =
-    rw is (one_more channels F xs i (get_or xs i d) d best one inside refl of_xs of_x)
-
 -- its end: all items
 pub all_done : {X : Type 0} (channels : List Channel) (F : X → Place → Type 0) (xs : List X) (i : ℕ) (best : Option Place) →
     length xs ≤ i → IsFirstFailure channels (Any F (take i xs)) best → IsFirstFailure channels (Any F xs) best
@@ -156,7 +148,7 @@ all_done channels F xs i best past of_xs = rw (take_all i xs past) at of_xs
 
 -- Rules.
 
--- an answer of what fails is one of the rule, where the rule is a test,
+-- an answer of what fails is one of the rule, where the rule is a test
 pub holds_first : (channels : List Channel) (rule : Place → Bool) (answer : Option Place) →
     IsFirstFailure channels (λ p. rule p ≡ false) answer → IsFirstBreach channels (λ p. rule p ≡ true) answer
 holds_first channels rule None first = λ p. elim (cases_Bool (rule p)) [
@@ -166,34 +158,6 @@ holds_first channels rule None first = λ p. elim (cases_Bool (rule p)) [
 holds_first channels rule (Some at) first = (
   λ holds. false≢true (sym first.0 ∙ holds),
   λ p before. elim (cases_Bool (rule p)) [
-    | inl holds ↦ holds
-    | inr fails ↦ absurd (false≢true (sym (first.1 p fails) ∙ before))
-  ],
-)
-
--- and back
-pub fails_first : (channels : List Channel) (rule : Place → Bool) (answer : Option Place) →
-    IsFirstBreach channels (λ p. rule p ≡ true) answer → IsFirstFailure channels (λ p. rule p ≡ false) answer
-fails_first channels rule None first = λ p fails. false≢true (sym fails ∙ first p)
-fails_first channels rule (Some at) first = (
-  elim (cases_Bool (rule at)) [ inl holds ↦ absurd (first.0 holds) | inr fails ↦ fails ],
-  λ p fails. elim (cases_Bool (goes_before channels p at)) [
-    | inl before ↦ absurd (false≢true (sym fails ∙ first.1 p before))
-    | inr behind ↦ behind
-  ],
-)
-
--- or where each place decides whether it holds
-pub decided_first : (channels : List Channel) (Holds : Place → Type 0) (answer : Option Place) →
-    ((p : Place) → Holds p ⊎ (Holds p → ⊥)) → IsFirstFailure channels (λ p. Holds p → ⊥) answer →
-    IsFirstBreach channels Holds answer
-decided_first channels Holds None decide first = λ p. elim (decide p) [
-  | inl holds ↦ holds
-  | inr fails ↦ absurd (first p fails)
-]
-decided_first channels Holds (Some at) decide first = (
-  first.0,
-  λ p before. elim (decide p) [
     | inl holds ↦ holds
     | inr fails ↦ absurd (false≢true (sym (first.1 p fails) ∙ before))
   ],
@@ -218,24 +182,3 @@ both_tests channels one two a b of_one of_two =
     (earlier channels a b)
     (λ p fails. either_of_and (one p) (two p) fails) (λ p fails. and_of_either (one p) (two p) fails)
     (joined channels (λ p. one p ≡ false) (λ p. two p ≡ false) a b of_one of_two)
-
--- two rules, each answered
-pub both_hold : (channels : List Channel) (A B : Place → Type 0) (a b : Option Place) →
-    IsFirstBreach channels A a → IsFirstBreach channels B b →
-    IsFirstBreach channels (λ p. A p × B p) (earlier channels a b)
-both_hold channels A B None None of_a of_b = λ p. (of_a p, of_b p)
-both_hold channels A B None (Some b) of_a of_b = (λ both. of_b.0 both.1, λ p before. (of_a p, of_b.1 p before))
-both_hold channels A B (Some a) None of_a of_b = (λ both. of_a.0 both.0, λ p before. (of_a.1 p before, of_b p))
-both_hold channels A B (Some a) (Some b) of_a of_b = elim (cases_Bool (goes_before channels b a)) [
-  | inl before ↦ rw before
-      (λ both. of_b.0 both.1, λ p first. (of_a.1 p (before-trans channels p b a first before), of_b.1 p first))
-  | inr not ↦ rw not
-      (λ both. of_a.0 both.0, λ p first. (of_a.1 p first, of_b.1 p (before-through channels p a b first not)))
-]
-
--- rules that hold at the same places have the same answers
-pub same_rule : (channels : List Channel) (A B : Place → Type 0) (answer : Option Place) →
-    ((p : Place) → A p → B p) → ((p : Place) → B p → A p) → IsFirstBreach channels A answer → IsFirstBreach channels B answer
-same_rule channels A B None there back first = λ p. there p (first p)
-same_rule channels A B (Some at) there back first =
-    (λ holds. first.0 (back at holds), λ p before. there p (first.1 p before))

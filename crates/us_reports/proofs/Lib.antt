@@ -4,4 +4,5 @@ pub mod AnyLemmas
 pub mod ReportReaderLemmas
 pub mod ReportPlaceLemmas
 pub mod ReportLineLemmas
+pub mod FrontLemmas
 pub mod ReportLemmas

@@ -1,5 +1,5 @@
 -- The order of places: any two different places are in order, one way alone.
-use Rattle.std.proofs.Common.{◌≡◌, ℕ, ◌<◌, Bool, true, false, List, [], ◌∷◌, Option, Some, None, get_or, refl, sym, ap, ap₂, ◌∙◌, ◌⊎◌, inl, inr, arith}
+use Rattle.std.proofs.Common.{◌≡◌, ℕ, ◌<◌, Bool, true, false, List, [], ◌∷◌, Option, Some, None, get_or, refl, sym, ap, ap₂, ◌∙◌, inl, inr, arith}
 use Rattle.std.specs.Prelude.{◌==◌, nat_lt, if◌then◌else◌}
 use Rattle.std.proofs.lemmas.Bool.{cases_Bool, eqb-true, eq-eqb, false≢true}
 use Rattle.std.proofs.lemmas.Bool.Decides.{nat_tests}
@@ -163,19 +163,6 @@ before-joins channels a b c one two =
     ∙ order-joins (numbers_of channels a) (numbers_of channels b) (numbers_of channels c)
     (sym (before-numbers channels a b) ∙ one) (sym (before-numbers channels b c) ∙ two)
 
--- what goes before a place goes before each that does not go before that place
-pub before-through : (channels : List Channel) (a b c : Place) → goes_before channels a b ≡ true →
-    goes_before channels c b ≡ false → goes_before channels a c ≡ true
-before-through channels a b c before not = elim (cases_Bool (goes_before channels a c)) [
-  | inl sooner ↦ sooner
-  | inr later ↦ absurd (false≢true (sym (before-joins channels a c b later not) ∙ before))
-]
-
--- where a first place goes before a second, and that before a third, the first goes before the third
-pub before-trans : (channels : List Channel) (a b c : Place) → goes_before channels a b ≡ true →
-    goes_before channels b c ≡ true → goes_before channels a c ≡ true
-before-trans channels a b c one two = before-through channels a b c one (before-asym channels b c two)
-
 -- places with the same three numbers are one
 pub place-is : (a b : Place) → a.round ≡ b.round → a.channel ≡ b.channel → a.third ≡ b.third → a ≡ b
 place-is a b round channel third =
@@ -186,7 +173,7 @@ place-is a b round channel third =
     place : ℕ → ℕ → ℕ → Place
     place r c t = record { round = r; channel = c; third = t }
 
--- two places of which none goes before the other are one,
+-- two places of which none goes before the other are one
 pub before-equal : (channels : List Channel) (a b : Place) → goes_before channels a b ≡ false →
     goes_before channels b a ≡ false → a ≡ b
 before-equal channels a b one two =
@@ -197,14 +184,3 @@ before-equal channels a b one two =
     let channel = rank-equal channels a.channel b.channel rank in
     let round : a.round ≡ b.round = ap (λ ns. get_or ns 0 0) same in
     place-is a b round channel (ap (λ ns. get_or ns 3 0) same)
-
--- so of two that differ one goes before the other
-pub before-one : (channels : List Channel) (a b : Place) → (a ≡ b → ⊥) →
-    (goes_before channels a b ≡ true) ⊎ (goes_before channels b a ≡ true)
-before-one channels a b differ = elim (cases_Bool (goes_before channels a b)) [
-  | inl before ↦ inl before
-  | inr not ↦ elim (cases_Bool (goes_before channels b a)) [
-    | inl behind ↦ inr behind
-    | inr neither ↦ absurd (differ (before-equal channels a b not neither))
-  ]
-]

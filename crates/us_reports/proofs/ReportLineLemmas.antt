@@ -1,5 +1,5 @@
 -- Lines of a report: what is found is spelled so, and what is spelled so is found again.
-use Rattle.std.proofs.Common.{◌≡◌, ℕ, ◌^◌, ◌<◌, List, [], ◌∷◌, ◌++◌, Some, not, codes, refl, sym, ap, ◌∙◌, append_assoc, inl, inr}
+use Rattle.std.proofs.Common.{◌≡◌, ℕ, ◌^◌, ◌<◌, List, [], ◌∷◌, ◌++◌, Option, Some, None, option_map, not, codes, refl, sym, ap, ◌∙◌, append_assoc, inl, inr}
 use Rattle.std.specs.Fmt.{decimal}
 use Rattle.std.proofs.lemmas.Bool.{not-true}
 use Rattle.std.proofs.lemmas.Bool.Decides.{eqb_tells}
@@ -13,7 +13,8 @@ use Rattle.us_output.specs.declared.rows.TraceCounts.{TraceCounts}
 use Rattle.us_reports.specs.Rows.{is_requested}
 use Rattle.us_output.specs.Lines.{word_text, numbers, units_text, text_of, grant_text, missed_text, final_text, activity_text, counts_text, Fit}
 use Rattle.us_reports.specs.Rows.{IsRow}
-use Rattle.us_reports.specs.ReportReaders.{after, field_at, word_at, units_at, occurrence_at, grant_at, missed_at, final_at, activity_at, counts_at, told_by, row_at}
+use Rattle.us_reports.specs.Fronts.{front_text}
+use Rattle.us_reports.specs.ReportReaders.{◌>>=◌, after, field_at, word_at, units_at, occurrence_at, tail_at, grant_at, missed_at, final_at, activity_at, counts_at, told_by, row_at}
 use Rattle.us_reports.proofs.ReportReaderLemmas.{Stops, bool_tells, found_in, moved, after_again, after_found, field_found, field_again, field_comma, field_end, word_found, word_again, units_found, units_again}
 
 -- Texts.
@@ -116,50 +117,68 @@ grant_spelled g more =
     (g.id ∷ g.i ∷ g.k ∷ g.sid ∷ g.iuc ∷ g.start ∷ g.slots ∷ g.credit ∷ []) more)
 
 grant_found : (bytes : List ℕ) (x : Grant × List ℕ) → grant_at bytes ≡ Some x → TellsGrant bytes x
-unfolding grant_at
+unfolding grant_at tail_at
 grant_found bytes x found =
-    found_in (occurrence_at bytes) _ x found (λ of a found.
-    found_in (field_at of.1) _ x found (λ sid b found.
-    found_in (field_at sid.1) _ x found (λ iuc c found.
-    found_in (field_at iuc.1) _ x found (λ start d found.
-    found_in (field_at start.1) _ x found (λ slots e found.
-    found_in (field_at slots.1) _ x found (λ credit f found.
-    found_in (after (codes "\n") credit.1) _ x found (λ rest g found.
-    let a = occurrence_found bytes of a in
-    let b = field_found of.1 sid b in
-    let c = field_found sid.1 iuc c in
-    let d = field_found iuc.1 start d in
-    let e = field_found start.1 slots e in
-    let f = field_found slots.1 credit f in
-    let h = a.0 in
+    found_in (field_at bytes) _ x found (λ round a found.
+    found_in (field_at round.1) _ x found (λ channel b found.
+    found_in (after (codes ",") channel.1) _ x found (λ comma c found.
+    found_in (word_at comma) _ x found (λ entry d found.
+    found_in (field_at entry.1) _ x found (λ id e found.
+    found_in (field_at id.1) _ x found (λ i f found.
+    found_in (field_at i.1) _ x found (λ k g found.
+    found_in (field_at k.1) _ x found (λ sid h found.
+    found_in (field_at sid.1) _ x found (λ iuc j found.
+    found_in (field_at iuc.1) _ x found (λ start l found.
+    found_in (field_at start.1) _ x found (λ slots m found.
+    found_in (field_at slots.1) _ x found (λ credit n found.
+    found_in (after (codes "\n") credit.1) _ x found (λ rest o found.
+    let a = field_found bytes round a in
+    let b = field_found round.1 channel b in
+    let e = field_found entry.1 id e in
+    let f = field_found id.1 i f in
+    let g = field_found i.1 k g in
+    let h = field_found k.1 sid h in
+    let j = field_found sid.1 iuc j in
+    let l = field_found iuc.1 start l in
+    let m = field_found start.1 slots m in
+    let n = field_found slots.1 credit n in
     moved (TellsGrant bytes) _ x found (
-      ((h.0, (h.1.0, (h.1.1.0, (h.1.1.1.0, (h.1.1.1.1.0, (b.0, (c.0, (d.0, (e.0, (f.0, tt)))))))))), refl),
+      ((a.0, (b.0, (e.0, (f.0, (g.0, (h.0, (j.0, (l.0, (m.0, (n.0, tt)))))))))), refl),
       ap (λ text. 71 ∷ text)
-          (a.1 ∙ ap (occurrence_text of.0)
-          (follow (44 ∷ decimal sid.0) b.1 (follow (44 ∷ decimal iuc.0) c.1 (follow (44 ∷ decimal start.0) d.1
-          (follow (44 ∷ decimal slots.0) e.1
-          (follow (44 ∷ decimal credit.0) f.1 (after_found (codes "\n") credit.1 rest g)))))))
+          (follow (44 ∷ decimal round.0) a.1 (follow (44 ∷ decimal channel.0) b.1
+          (follow (codes ",") (after_found (codes ",") channel.1 comma c)
+          (follow (word_text entry.0) (word_found comma entry d) (follow (44 ∷ decimal id.0) e.1
+          (follow (44 ∷ decimal i.0) f.1 (follow (44 ∷ decimal k.0) g.1 (follow (44 ∷ decimal sid.0) h.1
+          (follow (44 ∷ decimal iuc.0) j.1 (follow (44 ∷ decimal start.0) l.1 (follow (44 ∷ decimal slots.0) m.1
+          (follow (44 ∷ decimal credit.0) n.1 (after_found (codes "\n") credit.1 rest o)))))))))))))
           ∙ sym (grant_spelled _ rest),
-    ))))))))
-
-occurrence_of : Grant → MissedOccurrence
-occurrence_of g = record { round = g.round; channel = g.channel; entry = g.entry; id = g.id; i = g.i; k = g.k }
+    ))))))))))))))
 
 grant_again : (g : Grant) (more : List ℕ) → IsRow (rows.Granted g) →
     row_at (grant_text g ++ more) ≡ Some (rows.Granted g, more)
-unfolding grant_at told_by row_at occurrence_of
+unfolding grant_at tail_at told_by row_at
 grant_again g more is =
     let f = is.0 in
+    let round : g.round < 2 ^ 64 = f.0 in
+    let channel : g.channel < 2 ^ 64 = f.1.0 in
+    let id : g.id < 2 ^ 64 = f.1.1.0 in
+    let i : g.i < 2 ^ 64 = f.1.1.1.0 in
+    let k : g.k < 2 ^ 64 = f.1.1.1.1.0 in
     let s = f.1.1.1.1.1 in
     let sid : g.sid < 2 ^ 64 = s.0 in
     let iuc : g.iuc < 2 ^ 64 = s.1.0 in
     let start : g.start < 2 ^ 64 = s.1.1.0 in
     let slots : g.slots < 2 ^ 64 = s.1.1.1.0 in
     let credit : g.credit < 2 ^ 64 = s.1.1.1.1.0 in
-    let tail : List ℕ = fields (g.sid ∷ g.iuc ∷ g.start ∷ g.slots ∷ g.credit ∷ []) (10 ∷ more) in
     ap row_at (grant_spelled g more)
     ∙ rw (
-      occurrence_again (occurrence_of g) tail (f.0, (f.1.0, (f.1.1.0, (f.1.1.1.0, (f.1.1.1.1.0, tt))))) refl,
+      field_comma,
+      field_comma,
+      after_again (codes ","),
+      word_again,
+      field_comma,
+      field_comma,
+      field_comma,
       field_comma,
       field_comma,
       field_comma,
@@ -167,6 +186,39 @@ grant_again g more is =
       field_end,
       after_again (codes "\n"),
     ) refl
+
+front_spelled : (round channel : ℕ) (more : List ℕ) →
+    front_text round channel ++ more ≡ 71 ∷ fields (round ∷ channel ∷ []) (44 ∷ more)
+front_spelled round channel more =
+    ap (λ text. 71 ∷ text)
+    (append_assoc (numbers (round ∷ channel ∷ [])) (codes ",") more
+    ∙ numbers_spelled (round ∷ channel ∷ []) (44 ∷ more))
+
+tail_told : (tail : Option (Grant × List ℕ)) →
+    ◌≡◌ {A = Option (Row × List ℕ)}
+    (◌>>=◌ {A = Grant × List ℕ} {B = Row × List ℕ} tail (λ grant. Some (rows.Granted grant.0, grant.1)))
+    (option_map {T = Grant × List ℕ} {U = Row × List ℕ} (λ told. (rows.Granted told.0, told.1)) tail)
+tail_told None = refl
+tail_told (Some told) = refl
+
+-- a line with this front is a G line of this round and channel
+pub front_read : (bytes : List ℕ) (round channel : ℕ) (more : List ℕ) → bytes ≡ front_text round channel ++ more →
+    round < 2 ^ 64 → channel < 2 ^ 64 →
+    row_at bytes ≡ option_map (λ told. (rows.Granted told.0, told.1)) (tail_at round channel more)
+unfolding grant_at told_by row_at
+front_read bytes round channel more stands round_fits channel_fits =
+    ap row_at (stands ∙ front_spelled round channel more)
+    ∙ rw (field_comma, field_comma, after_again (codes ",")) (tail_told (tail_at round channel more))
+
+-- and a G line of a round and channel has their front
+pub front_stands : (bytes : List ℕ) (round channel : ℕ × List ℕ) (more : List ℕ) → field_at bytes ≡ Some round →
+    field_at round.1 ≡ Some channel → after (codes ",") channel.1 ≡ Some more →
+    71 ∷ bytes ≡ front_text round.0 channel.0 ++ more
+front_stands bytes round channel more a b c =
+    ap (λ text. 71 ∷ text)
+    (follow (44 ∷ decimal round.0) (field_found bytes round a).1 (follow (44 ∷ decimal channel.0)
+    (field_found round.1 channel b).1 (after_found (codes ",") channel.1 more c)))
+    ∙ sym (front_spelled round.0 channel.0 more)
 
 -- M lines.
 

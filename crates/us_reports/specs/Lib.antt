@@ -9,6 +9,8 @@ pub mod Rows
 pub mod Reports
 -- how their lines are read
 pub mod ReportReaders
+-- what is remembered of a line
+pub mod Fronts
 -- which places go before which
 pub mod Order
 -- the first place at which a rule doesn't hold

@@ -81,7 +81,45 @@ units_at bytes =
       units ← number_at bytes
       Some (Some units.0, units.1))
 
--- what G lines and M lines begin with behind their letter
+-- a G line of this round and channel behind its front
+unfoldable pub tail_at : ℕ → ℕ → List ℕ → Option (Grant × List ℕ)
+tail_at round channel bytes = do
+  entry ← word_at bytes
+  id ← field_at entry.1
+  i ← field_at id.1
+  k ← field_at i.1
+  sid ← field_at k.1
+  iuc ← field_at sid.1
+  start ← field_at iuc.1
+  slots ← field_at start.1
+  credit ← field_at slots.1
+  rest ← after (codes "\n") credit.1
+  Some (
+    record {
+      round = round;
+      channel = channel;
+      entry = entry.0;
+      id = id.0;
+      i = i.0;
+      k = k.0;
+      sid = sid.0;
+      iuc = iuc.0;
+      start = start.0;
+      slots = slots.0;
+      credit = credit.0;
+    },
+    rest,
+  )
+
+-- a G line behind its letter
+unfoldable pub grant_at : List ℕ → Option (Grant × List ℕ)
+grant_at bytes = do
+  round ← field_at bytes
+  channel ← field_at round.1
+  comma ← after (codes ",") channel.1
+  tail_at round.0 channel.0 comma
+
+-- what an M line tells behind its letter
 unfoldable pub occurrence_at : List ℕ → Option (MissedOccurrence × List ℕ)
 occurrence_at bytes = do
   round ← field_at bytes
@@ -92,33 +130,6 @@ occurrence_at bytes = do
   i ← field_at id.1
   k ← field_at i.1
   Some (record { round = round.0; channel = channel.0; entry = entry.0; id = id.0; i = i.0; k = k.0 }, k.1)
-
--- a G line behind its letter
-unfoldable pub grant_at : List ℕ → Option (Grant × List ℕ)
-grant_at bytes = do
-  of ← occurrence_at bytes
-  sid ← field_at of.1
-  iuc ← field_at sid.1
-  start ← field_at iuc.1
-  slots ← field_at start.1
-  credit ← field_at slots.1
-  rest ← after (codes "\n") credit.1
-  Some (
-    record {
-      round = of.0.round;
-      channel = of.0.channel;
-      entry = of.0.entry;
-      id = of.0.id;
-      i = of.0.i;
-      k = of.0.k;
-      sid = sid.0;
-      iuc = iuc.0;
-      start = start.0;
-      slots = slots.0;
-      credit = credit.0;
-    },
-    rest,
-  )
 
 -- an M line behind its letter
 unfoldable pub missed_at : List ℕ → Option (MissedOccurrence × List ℕ)

@@ -12,8 +12,9 @@
 // Why a report is refused.
 mod report_faults;
 
-// Pieces of its lines, its lines,
+// Pieces of its lines, what lines begin with, its lines,
 mod report_fields;
+mod report_fronts;
 mod report_lines;
 
 // and all of it.
@@ -30,4 +31,4 @@ pub use laws::one_reading;
 pub use order::{earlier, goes_before};
 pub use place::Place;
 pub use report_faults::ReportFault;
-pub use report_reading::{ANY_ROW, line_at, lines_end, read_line, report_rows};
+pub use report_reading::{LineReader, line_at, lines_end, report_rows};

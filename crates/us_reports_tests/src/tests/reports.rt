@@ -1,8 +1,9 @@
 use super::base::{Case, FIRST, compare, count_of, same};
 use std::alloc::Global;
 use std::fmt;
+use std::process::Abort;
 use us_output::{EntryWord, FinalActivity, FinalState, Grant, Row, TraceCounts};
-use us_reports::{ANY_ROW, ReportFault, line_at, lines_end, read_line, report_rows};
+use us_reports::{LineReader, ReportFault, line_at, lines_end, report_rows};
 
 /// The report of the stored run.
 static STORED: [u8; 51] = *b"G,1,1,req,1,0,0,291,10,0,32,1000\nF,1,0,0,-\nU,0,0,0\n";
@@ -65,25 +66,72 @@ const KINDS: &[u8] = b"\
     G,1,2,ugs,3,4,5,6,7,8,9,10\nM,1,2,ad,3,4,5\nG,11,2,req,1,0,0,291,10,0,32,1000\n\
     G,11,21,nrtp,1,0,0,291,10,0,32,0\nF,1,0,0,-\nF,1,0,0,7\nA,1,1\nM,1,2,station,0,0,0\nU,0,0,0\n";
 
+/// Reads a text line after line, `count` times, and compares each line with the one that is read alone. Behind what is no
+/// line it doesn't go on.
+fn read_on(rt: &impl Abort, reader: &mut LineReader, text: &[u8], count: u64) {
+    let end = lines_end(text);
+    let mut at = 0;
+    for _ in 0..count {
+        let next = reader.read(text, end, at);
+        let found = next.map(|next| (*reader.row(), next));
+        same(rt, &(at, found), &(at, line_at(text, end, at)), "a line");
+        at = next.unwrap_or(at);
+    }
+}
+
 /// Each line is written over the row of the one before, and nothing of that is left.
 #[test]
 fn one_over_another(rt: HostRuntime) {
-    let end = lines_end(KINDS);
-    let mut row = ANY_ROW;
-    let mut at = 0;
-    for _ in 0..9 {
-        let next = read_line(KINDS, end, at, &mut row);
-        let found = next.map(|next| (row, next));
-        same(&rt, &(at, found), &(at, line_at(KINDS, end, at)), "a line");
-        at = next.unwrap_or(at);
+    let mut reader = LineReader::new();
+    read_on(&rt, &mut reader, KINDS, 9);
+    same(&rt, reader.row(), &ROWS[2], "the last row");
+}
+
+/// Lines whose fronts are the same, change, get longer, have too few or too many bytes to be remembered, or differ in their
+/// first or last byte alone; the last line has fewer bytes than most fronts.
+const FRONTS: &[u8] = b"\
+    G,1,2,ugs,3,4,5,6,7,8,9,10\nG,1,2,ad,0,0,0,0,0,0,0,0\nG,10,12,rtp,1,2,3,4,5,6,7,8\n\
+    G,10,12,req,9,1,0,8,7,6,5,4\nG,10,13,nrtp,1,0,0,1,1,10,20,0\nM,10,13,ugs,1,0,0\n\
+    G,10,13,nrtp,1,0,0,1,1,30,20,0\nG,100,13,ugs,1,0,0,1,1,0,1,1\nG,1000,13,ugs,1,0,0,1,1,0,1,1\n\
+    G,2000,13,ugs,1,0,0,1,1,0,1,1\nG,2000,14,ugs,1,0,0,1,1,0,1,1\nG,2000,1,ugs,1,0,0,1,1,0,1,1\n\
+    G,123456789,12,ugs,1,0,0,1,1,0,1,1\nG,123456789,12,ugs,2,0,0,1,1,0,1,1\n\
+    G,123456789,123,ugs,1,0,0,1,1,0,1,1\nG,123456789,123,ugs,2,0,0,1,1,0,1,1\n\
+    G,123456789,1234,ugs,1,0,0,1,1,0,1,1\nG,123456789,1234,ugs,2,0,0,1,1,0,1,1\n\
+    G,18446744073709551615,65535,ugs,1,0,0,1,1,0,1,1\nF,1,0,0,-\nA,1,1\nU,0,0,0\n";
+
+/// What is remembered of a line changes none behind it, of the same text or of another.
+#[test]
+fn one_front_after_another(rt: HostRuntime) {
+    let mut reader = LineReader::new();
+    for text in [FRONTS, KINDS, FRONTS, &STORED] {
+        read_on(&rt, &mut reader, text, 24);
     }
-    same(&rt, &at, &end, "the end");
+}
+
+/// A line with the front of the one before may be none, and the next one is read by that front again.
+#[test]
+fn a_front_and_no_line(rt: HostRuntime) {
+    let mut reader = LineReader::new();
+    for text in [
+        b"G,1000,12,ugs,1,0,0,1,1,0,1,1\n".as_slice(),
+        b"G,1000,12,ugs,1,0,0,1,1,0,1\n",
+        b"G,1000,12,ugs,2,0,0,1,1,0,1,1\n",
+        b"G,1000,12,",
+        b"G,1000,12,\n",
+        b"G,1000,1\n",
+        b"G,1000,13,ugs,2,0,0,1,1,0,1,01\n",
+        b"G,1000,12,ugs,3,0,0,1,1,0,1,1\n",
+        b"M,1000,12,req,1,0,0\n",
+        b"G,1000,12,ad,3,0,0,1,1,0,1,1\n",
+    ] {
+        read_on(&rt, &mut reader, text, 2);
+    }
 }
 
 /// Where no line begins, none is answered.
 #[test]
 fn no_line(rt: HostRuntime) {
-    let mut row = ANY_ROW;
+    let mut reader = LineReader::new();
     for text in [
         b"".as_slice(),
         b"\n",
@@ -91,7 +139,7 @@ fn no_line(rt: HostRuntime) {
         b"M,1,2,req,3,4,5\n",
         b"X\n",
     ] {
-        let found = read_line(text, lines_end(text), 0, &mut row);
+        let found = reader.read(text, lines_end(text), 0);
         same(&rt, &(text, found), &(text, None), "a text");
     }
 }

@@ -12,10 +12,10 @@ returns-in_default c =
 
 pub loop-at-smaller : goal.loop-at-smaller
 loop-at-smaller c =
-    less_left c.args.bytes.now c.loop-at.at c.in-Some.next c.read_line.new.row c.in-Some.ensures c.loop-at-test.true
+    less_left c.args.bytes.now c.loop-at.at c.in-Some.next c.read.new.self c.in-Some.ensures c.loop-at-test.true
 
 pub loop-at-preserved : goal.loop-at-preserved
 loop-at-preserved c =
-    rw (c.in_ok-push.ensures.items)
-    (read_more c.args.bytes.now c.loop-at.at c.in-Some.next c.loop-at.rows.items c.read_line.new.row c.loop-at.invariant
+    rw (c.in_ok-push.ensures.items, c.row.ensures)
+    (read_more c.args.bytes.now c.loop-at.at c.in-Some.next c.loop-at.rows.items c.read.new.self c.loop-at.invariant
     c.in-Some.ensures)
