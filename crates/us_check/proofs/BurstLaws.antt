@@ -1,9 +1,9 @@
 -- A line that credits more bytes than any burst carries: no MAP has minislots for them, so it breaks the rule of
 -- credits.
-use Rattle.std.proofs.Common.{◌≡◌, ◌≢◌, ℕ, ◌+◌, ◌-◌, ◌*◌, ◌/◌, ◌%◌, ◌<◌, ◌≤◌, ◌==◌, nat_le, nat_lt, ◌&&◌, ◌||◌, Bool, true, false, List, [], ◌∷◌, ◌++◌, length, map, get_or, Option, Some, None, refl, sym, ap, subst, ◌∙◌, inl, inr, arith}
-use Rattle.std.specs.Prelude.{count_by, not, option_map, slice_get}
+use Rattle.std.proofs.Common.{◌≡◌, ◌≢◌, ℕ, ◌+◌, ◌-◌, ◌*◌, ◌/◌, ◌%◌, ◌<◌, ◌≤◌, ◌==◌, nat_le, nat_lt, ◌&&◌, ◌||◌, true, false, List, [], ◌∷◌, ◌++◌, length, map, get_or, Option, Some, None, refl, sym, ap, subst, ◌∙◌, inl, inr, arith}
+use Rattle.std.specs.Prelude.{not, option_map, slice_get}
 use Rattle.std.specs.List.{AllByRecursion, list_all, list_any}
-use Rattle.std.proofs.lemmas.Bool.{cases_Bool, cases_lt, and_parts, and_left, or_cases, eq-eqb, ne_eqb, leb-true, lt-ltb, ltb-true, false≢true}
+use Rattle.std.proofs.lemmas.Bool.{cases_Bool, cases_lt, and_parts, or_cases, eq-eqb, eqb-true, ne_eqb, leb-true, lt-ltb, ltb-true, false≢true, false_from_ne_true}
 use Rattle.std.proofs.lemmas.Bool.Decides.{nat_tests}
 use Rattle.std.proofs.lemmas.Nat.{mul-le, div-mul-add, mod-mul-add}
 use Rattle.std.proofs.lemmas.Option.{slice_get-map, get_or_from_slice_get, slice_get_within}
@@ -15,26 +15,27 @@ use Rattle.us_slots.proofs.CostLemmas.{overhead_of}
 use Rattle.us_codec.specs.Elements.{MapElement, null_at}
 use Rattle.us_codec.specs.Bodies.{MapBody, IsMapBody, IsRising}
 use Rattle.us_flows.specs.declared.channels.Channel.{Channel}
-use Rattle.us_flows.specs.Tables.{Tables, map_len, has_channel, channel_with, header_bytes}
+use Rattle.us_flows.specs.Tables.{map_len, has_channel, channel_with, header_bytes}
 use Rattle.us_flows.specs.Lawful.{AreTables, IsChannel}
-use Rattle.us_flows.specs.Clusters.{Cluster, Turn, table_order, has_sid}
+use Rattle.us_flows.specs.Clusters.{Cluster, table_order, has_sid}
 use Rattle.us_output.specs.declared.rows.Grant.{Grant}
 use Rattle.us_output.specs.declared.rows.Row.{Row}
 use Rattle.us_output.specs.declared.rows.Row.TheVariants as rows
+use Rattle.us_output.proofs.PartLemmas.{all_found}
 use Rattle.us_reports.specs.declared.place.Place.{Place}
 use Rattle.us_lawful.specs.Runs.{Run, RoundMap, Judged, grants_in, requested_in}
 use Rattle.us_reports.specs.Rows.{is_requested}
 use Rattle.us_lawful.specs.Headings.{Heading, heading_of, heading_told, null_offset}
 use Rattle.us_lawful.specs.Places.{is_told_at, has_place, places_hold}
 use Rattle.us_lawful.specs.Regions.{Region, covers, element_regions, end_holds, end_of, grant_regions, holder_count, inside_holds, is_free, is_gap, is_right_element, is_same, map_regions, minislot_holds, none_empty_at, region_of, regions_of, reserve_regions}
-use Rattle.us_lawful.specs.Credits.{credit_lines_hold, credits_hold, has_cost, is_credit_at, is_like, is_of, is_right_credit, is_right_for, sums_hold}
+use Rattle.us_lawful.specs.Credits.{credit_lines_hold, credits_hold, has_cost, is_credit_at, is_of, is_right_credit, is_right_for, sums_hold}
 use Rattle.us_lawful.specs.Lawful.{IsRoundMap}
 use Rattle.us_reports.specs.Order.{place_of}
 use Rattle.us_map_rules.specs.Pieces.{piece_of}
 use Rattle.us_map_rules.proofs.HeadingLemmas.{told_there}
-use Rattle.us_map_rules.proofs.TableLemmas.{IsFound, found_channel, lacks}
+use Rattle.us_map_rules.proofs.TableLemmas.{IsFound, found_channel, has_by_place, place_or_end}
 use Rattle.us_check.specs.Bursts.{IsLong, LongCreditsFail, LongGrantsPassMaps, MapsHold, place_of_line}
-use Rattle.us_check.proofs.AmongLemmas.{Among, all_among, among_any, among_each, among_filter, among_got, any_among, behind_among, each_from_among, filter_among, map_among, none_passes, not_all_among, one_passes}
+use Rattle.us_check.proofs.AmongLemmas.{Among, all_among, among_any, among_each, among_filter, any_among, behind_among, each_from_among, filter_among, map_among, one_passes}
 
 -- Costs.
 
@@ -150,8 +151,7 @@ map_ends run judged round y c maps below got =
         ∙ sym (slice_get-map heading_told judged.maps (round * length run.tables.channels + y))
         ∙ told_map run judged round y c maps below got in
         elements_end m.body (map_len run.tables c)
-        (among_each IsRoundMap judged.maps m maps.maps
-        (among_got judged.maps (round * length run.tables.channels + y) m is)).body
+        (all_found IsRoundMap judged.maps (round * length run.tables.channels + y) m maps.maps is).body
         (ap (λ (h : Heading). h.len) (same_heading (heading_told m) (heading_of run.tables round c) told))
 
 -- Minislots.
@@ -243,30 +243,17 @@ has_its_place run judged g places among =
       | inr none ↦ absurd (false≢true (rw told at none))
     ]
 
-is_there : (channels : List Channel) (id : ℕ) → has_channel channels id ≡ true → channel_with channels id ≡ None → ⊥
-is_there [] id has none = false≢true has
-is_there (c ∷ more) id has none = elim (cases_Bool (c.id == id)) [
-  | inl here ↦
-      let some : Some c ≡ None = rw here at none in
-      cc some
-  | inr other ↦ is_there more id (rw other at has) (rw other at none)
-]
-
 found : (channels : List Channel) (id : ℕ) → has_channel channels id ≡ true →
     (y : ℕ) × (place_of channels id ≡ Some y) × (c : Channel) × IsFound channels id y c
-found channels id has = by (place_of channels id) refl
-  where
-    by : (o : Option ℕ) → place_of channels id ≡ o →
-        (y : ℕ) × (place_of channels id ≡ Some y) × (c : Channel) × IsFound channels id y c
-    by None none = absurd (is_there channels id has (lacks channels id none))
-    by (Some y) at =
-        let c = found_channel channels id y at in
-        (y, at, c.0, c.1)
+found channels id has =
+    let at : place_of channels id ≡ Some (place_or_end channels id) = rw (sym (has_by_place channels id) ∙ has) refl in
+    let c = found_channel channels id (place_or_end channels id) at in
+    (place_or_end channels id, at, c.0, c.1)
 
 -- and its minislots are no more than those of a MAP of its channel
 few_slots : (run : Run) (judged : Judged) (g : Grant) → MapsHold run judged → Among g (grants_in judged.lines) →
-    (c : Channel) × (channel_with run.tables.channels g.channel ≡ Some c) × Among c run.tables.channels
-    × (g.slots ≤ map_len run.tables c)
+    (y : ℕ) × (c : Channel) × (channel_with run.tables.channels g.channel ≡ Some c)
+    × (slice_get run.tables.channels y ≡ Some c) × (g.slots ≤ map_len run.tables c)
 few_slots run judged g maps among =
     let has = and_parts (nat_lt g.round run.rounds) (has_channel run.tables.channels g.channel)
     (has_its_place run judged g maps.places among) in
@@ -281,64 +268,54 @@ few_slots run judged g maps among =
     (map_among region_of _ g (filter_among (λ other. (other.round == g.round) && (other.channel == c.id))
     (grants_in judged.lines) g among
     (rw (eq-eqb g.round g.round refl, eq-eqb g.channel c.id (sym is.id_is)) refl))) in (
+      y,
       c,
       is.found,
-      among_got run.tables.channels y c is.there,
+      is.there,
       held_inside c (map_len run.tables c) (regions_of run judged g.round c)
           (map_regions (slice_get judged.maps (g.round * length run.tables.channels + y))) (region_of g)
           (λ third. rw (has.0, is.found, at.1) at (maps.regions (place third)))
           (map_ends run judged g.round y c maps below is.there) mine,
     )
 
--- so it isn't what a grant of more bytes costs
-costs_more : (t : Tables) (g : Grant) (c : Channel) (cluster : Cluster) → AreTables t →
-    channel_with t.channels g.channel ≡ Some c → IsChannel t c → g.slots ≤ map_len t c →
-    98304 < g.credit + header_bytes cluster.flow → has_cost cluster g (channel_with t.channels g.channel) ≡ false
-costs_more t g c cluster lawful with_id is few more =
-    let past = long_grants_pass_maps t c (g.credit + header_bytes cluster.flow) lawful is more in
-    rw with_id (and_left (g.slots == (grant_cost c.bursts (g.credit + header_bytes cluster.flow)).0)
-    (g.iuc == (grant_cost c.bursts (g.credit + header_bytes cluster.flow)).1)
-    (ne_eqb g.slots (grant_cost c.bursts (g.credit + header_bytes cluster.flow)).0
-    (λ same. omega (arith, same, past, few))))
-
-fifth : (a b c d f : Bool) → (a && (b && (c && (d && (false && f))))) ≡ false
-fifth false b c d f = refl
-fifth true false c d f = refl
-fifth true true false d f = refl
-fifth true true true false f = refl
-fifth true true true true f = refl
-
-wrong_for : (run : Run) (lines : List Row) (g : Grant) (c : Channel) (turn : Turn) → AreTables run.tables →
+-- so a line of more bytes isn't right, whichever cluster it names
+never_right : (run : Run) (lines : List Row) (g : Grant) (c : Channel) (cluster : Cluster) → AreTables run.tables →
     channel_with run.tables.channels g.channel ≡ Some c → IsChannel run.tables c → g.slots ≤ map_len run.tables c →
-    (is_of turn.cluster g ≡ true → 98304 < g.credit + header_bytes turn.cluster.flow) →
-    is_right_for run lines g turn.cluster ≡ false
-wrong_for run lines g c turn lawful with_id is few long = elim (cases_Bool (is_of turn.cluster g)) [
-  | inr other ↦ and_left (is_of turn.cluster g) _ other
-  | inl named ↦
-      let wrong = costs_more run.tables g c turn.cluster lawful with_id is few (long named) in
-      rw wrong (fifth (is_of turn.cluster g) (g.k == 0) (has_sid g.channel g.sid turn.cluster) (nat_lt 0 g.credit)
-      (count_by (is_like g) (requested_in lines) == 1))
-]
+    (is_of cluster g ≡ true → 98304 < g.credit + header_bytes cluster.flow) →
+    is_right_for run lines g cluster ≡ true → ⊥
+never_right run lines g c cluster lawful with_id is few long right =
+    let cost : ℕ × ℕ = grant_cost c.bursts (g.credit + header_bytes cluster.flow) in
+    let of = and_parts (is_of cluster g) _ right in
+    let first = and_parts (g.k == 0) _ of.1 in
+    let sid = and_parts (has_sid g.channel g.sid cluster) _ first.1 in
+    let some = and_parts (nat_lt 0 g.credit) _ sid.1 in
+    let has = and_parts (has_cost cluster g (channel_with run.tables.channels g.channel)) _ some.1 in
+    let slots = and_parts (g.slots == cost.0) (g.iuc == cost.1) (rw with_id at has.0) in
+    omega (
+      arith,
+      long_grants_pass_maps run.tables c (g.credit + header_bytes cluster.flow) lawful is (long of.0),
+      eqb-true g.slots cost.0 slots.0,
+      few,
+    )
 
 pub long_credits_fail : LongCreditsFail
 long_credits_fail run judged lawful maps =
     each_from_among (λ g. IsLong run.tables g → credits_hold run judged (place_of_line g) ≡ false)
-    (requested_in judged.lines) fails
+    (requested_in judged.lines)
+    (λ g among long. false_from_ne_true (credits_hold run judged (place_of_line g)) (never g among long))
   where
-    fails : (g : Grant) → Among g (requested_in judged.lines) → IsLong run.tables g →
-        credits_hold run judged (place_of_line g) ≡ false
-    fails g among long =
+    never : (g : Grant) → Among g (requested_in judged.lines) → IsLong run.tables g →
+        credits_hold run judged (place_of_line g) ≡ true → ⊥
+    never g among long hold =
         let few = few_slots run judged g maps
         (among_filter (λ g. is_requested g.entry) (grants_in judged.lines) g among).0 in
-        let is : IsChannel run.tables few.0 =
-        among_each (IsChannel run.tables) run.tables.channels few.0 lawful.channels few.2 in
-        let wrong : is_right_credit run judged.lines g ≡ false =
-        none_passes (λ turn. is_right_for run judged.lines g turn.cluster) (table_order run.tables)
-        (each_from_among (λ turn. is_right_for run judged.lines g turn.cluster ≡ false) (table_order run.tables)
-        (λ turn there. wrong_for run judged.lines g few.0 turn lawful few.1 is few.3
+        let lines = (and_parts (credit_lines_hold run judged (place_of_line g)) (sums_hold run judged (place_of_line g)) hold).0 in
+        let right : is_right_credit run judged.lines g ≡ true =
+        rw (eq-eqb g.round g.round refl, eq-eqb g.channel g.channel refl, eq-eqb g.id g.id refl) at
+        (all_among (λ other. not (is_credit_at (place_of_line g) other) || is_right_credit run judged.lines other)
+        (requested_in judged.lines) g lines among) in
+        let turn = among_any (λ turn. is_right_for run judged.lines g turn.cluster) (table_order run.tables) right in
+        never_right run judged.lines g few.1 turn.0.cluster lawful few.2
+        (all_found (IsChannel run.tables) run.tables.channels few.0 few.1 lawful.channels few.3) few.4
         (among_each (λ turn. is_of turn.cluster g ≡ true → 98304 < g.credit + header_bytes turn.cluster.flow)
-        (table_order run.tables) turn long there))) in
-        and_left (credit_lines_hold run judged (place_of_line g)) (sums_hold run judged (place_of_line g))
-        (not_all_among (λ other. not (is_credit_at (place_of_line g) other) || is_right_credit run judged.lines other)
-        (requested_in judged.lines) g among
-        (rw (eq-eqb g.round g.round refl, eq-eqb g.channel g.channel refl, eq-eqb g.id g.id refl, wrong) refl))
+        (table_order run.tables) turn.0 long turn.1) turn.2

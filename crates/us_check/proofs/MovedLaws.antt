@@ -1,7 +1,7 @@
 -- Lines in another order hold alike: all that rules read of them are sums, and what passes somewhere or everywhere.
 use Rattle.std.proofs.Common.{◌≡◌, ℕ, ◌==◌, nat_lt, ◌&&◌, ◌||◌, if◌then◌else◌, Bool, true, List, [], ◌∷◌, map, length, Option, None, Some, take, refl, ap, ap₂, sym, ◌∙◌, arith}
 use Rattle.std.specs.Prelude.{filter, not, sum_by}
-use Rattle.std.specs.List.{AllByRecursion, list_all, list_any, range_with_len}
+use Rattle.std.specs.List.{list_all, list_any, range_with_len}
 use Rattle.std.proofs.lemmas.List.Sums.{sum_by-cons}
 use Rattle.std.proofs.Math.Path.{fun_ext}
 use Rattle.us_flows.specs.declared.channels.Channel.{Channel}
@@ -10,6 +10,7 @@ use Rattle.us_flows.specs.Clusters.{Cluster, Turn, table_order}
 use Rattle.us_calendar.specs.Entries.{Entry, WordedFlow}
 use Rattle.us_output.specs.declared.rows.Grant.{Grant}
 use Rattle.us_output.specs.declared.rows.Row.{Row}
+use Rattle.us_output.proofs.PartLemmas.{all_weaker}
 use Rattle.us_reports.specs.declared.place.Place.{Place}
 use Rattle.us_lawful.specs.Runs.{Run, RoundMap, Judged, activities_in, as_activity, as_counts, as_final, as_grant, counts_in, counts_told, finals_in, grants_in, requested_in}
 use Rattle.us_reports.specs.Rows.{is_requested}
@@ -188,11 +189,6 @@ holds_same Finals run maps lines moved p h is = sym (finals_moved lines moved h 
 holds_same Activities run maps lines moved p h is = sym (activities_moved lines moved h run maps p) ∙ is
 holds_same Counts run maps lines moved p h is = sym (counts_moved lines moved h run maps p) ∙ is
 
-each_also : {X : Type 0} (P Q : X → Type 0) (xs : List X) → ((x : X) → P x → Q x) → AllByRecursion P xs →
-    AllByRecursion Q xs
-each_also P Q [] also all = tt
-each_also P Q (x ∷ xs) also all = (also x all.0, each_also P Q xs also all.1)
-
 -- and so do all of them
 pub answer_same : (run : Run) (maps : List RoundMap) (lines moved : List Row) (answer : Option Breach) →
     Same lines moved → IsAnswer run (record { maps = maps; lines = moved }) answer →
@@ -209,8 +205,8 @@ answer_same run maps lines moved answer h is = by answer is
     broken : (part : Part) (place : Place) → IsPartBroken run (record { maps = maps; lines = moved }) part place →
         IsPartBroken run (record { maps = maps; lines = lines }) part place
     broken part place is = record {
-      earlier = each_also (HoldsAll run (record { maps = maps; lines = moved }))
-          (HoldsAll run (record { maps = maps; lines = lines })) (take (order_of part) parts) all is.earlier;
+      earlier = all_weaker (HoldsAll run (record { maps = maps; lines = moved }))
+          (HoldsAll run (record { maps = maps; lines = lines })) all (take (order_of part) parts) is.earlier;
       first = (
         λ holds. is.first.0 (holds_same part run maps lines moved place h holds),
         λ p before. holds_same part run maps moved lines p back (is.first.1 p before),
@@ -219,8 +215,8 @@ answer_same run maps lines moved answer h is = by answer is
 
     by : (answer : Option Breach) → IsAnswer run (record { maps = maps; lines = moved }) answer →
         IsAnswer run (record { maps = maps; lines = lines }) answer
-    by None is = each_also (HoldsAll run (record { maps = maps; lines = moved }))
-        (HoldsAll run (record { maps = maps; lines = lines })) parts all is
+    by None is = all_weaker (HoldsAll run (record { maps = maps; lines = moved }))
+        (HoldsAll run (record { maps = maps; lines = lines })) all parts is
     by (Some breach) is =
         any_each (λ part place. (breach.rule ≡ rule_of part) × IsPartBroken run (record { maps = maps; lines = moved }) part place)
         (λ part place. (breach.rule ≡ rule_of part) × IsPartBroken run (record { maps = maps; lines = lines }) part place) parts

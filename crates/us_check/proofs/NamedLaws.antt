@@ -3,13 +3,13 @@ use Rattle.std.proofs.Common.{◌≡◌, ℕ, zero, suc, ◌<◌, ◌≤◌, Lis
 use Rattle.std.specs.Prelude.{slice_get}
 use Rattle.std.specs.List.{AllByRecursion}
 use Rattle.us_reports.specs.declared.place.Place.{Place}
+use Rattle.us_output.proofs.PartLemmas.{all_found}
 use Rattle.us_lawful.specs.Runs.{Run, Judged}
 use Rattle.us_check.specs.declared.rules.Breach.{Breach}
 use Rattle.us_check.specs.declared.rules.Rule.{Rule}
 use Rattle.us_check.specs.declared.rules.Rule.TheVariants as rule
 use Rattle.us_check.specs.Verdicts.{AreRead, HoldsAll, IsAnswer, IsBroken, IsPartBroken, Part, order_of, parts, rule_of}
 use Rattle.us_check.specs.Named.{IsFirstBroken, RuleHoldsBefore, VerdictsNameTheFirst, number_of}
-use Rattle.us_check.proofs.AmongLemmas.{Among, among_each, among_got}
 use Rattle.us_check.proofs.VerdictLaws.{breach_of, broken_part, by_either, listed, reached}
 
 -- The numbers of parts rise.
@@ -19,18 +19,19 @@ Rise f [] = Unit {0}
 Rise f (x ∷ xs) = AllByRecursion (λ y. f x ≤ f y) xs × Rise f xs
 
 -- so one of a lower number stands before
-lower_held : {X : Type 0} (f : X → ℕ) (P : X → Type 0) (xs : List X) (n : ℕ) (x y : X) → Rise f xs →
-    slice_get xs n ≡ Some x → Among y xs → f y < f x → AllByRecursion P (take n xs) → P y
-lower_held f P [] n x y rise got never less all = absurd never
-lower_held f P (z ∷ zs) (suc n) x y rise got (inl is) less all = subst P (sym is) all.0
-lower_held f P (z ∷ zs) (suc n) x y rise got (inr later) less all =
-    lower_held f P zs n x y rise.1 got later less all.1
-lower_held f P (z ∷ zs) zero x y rise got (inl is) less all =
+lower_held : {X : Type 0} (f : X → ℕ) (P : X → Type 0) (xs : List X) (n m : ℕ) (x y : X) → Rise f xs →
+    slice_get xs n ≡ Some x → slice_get xs m ≡ Some y → f y < f x → AllByRecursion P (take n xs) → P y
+lower_held f P [] n m x y rise got other less all = absurd (cc got)
+lower_held f P (z ∷ zs) (suc n) zero x y rise got other less all =
+    let is : z ≡ y = cc in
+    subst P is all.0
+lower_held f P (z ∷ zs) (suc n) (suc m) x y rise got other less all = lower_held f P zs n m x y rise.1 got other less all.1
+lower_held f P (z ∷ zs) zero zero x y rise got other less all =
     let same : y ≡ x = cc in
     absurd (omega (arith, less, ap f same))
-lower_held f P (z ∷ zs) zero x y rise got (inr later) less all =
+lower_held f P (z ∷ zs) zero (suc m) x y rise got other less all =
     let same : z ≡ x = cc in
-    absurd (omega (arith, less, ap f same, among_each (λ y. f z ≤ f y) zs y rise.0 later))
+    absurd (omega (arith, less, ap f same, all_found (λ y. f z ≤ f y) zs m y rise.0 other))
 
 abbrev part_number : Part → ℕ
 part_number part = number_of (rule_of part)
@@ -54,8 +55,8 @@ first_broken run judged breach is =
     let broken = broken_part run judged breach is in
     subst (λ rule. IsFirstBroken run judged rule breach.place) (sym broken.1) (record {
       fails = λ all. broken.2.first.0 (all broken.0 refl);
-      lower = λ other less. lower_held part_number (HoldsAll run judged) parts (order_of broken.0) broken.0 other rising
-          (listed broken.0) (among_got parts (order_of other) other (listed other)) less broken.2.earlier;
+      lower = λ other less. lower_held part_number (HoldsAll run judged) parts (order_of broken.0) (order_of other)
+          broken.0 other rising (listed broken.0) (listed other) less broken.2.earlier;
       before = held_before run judged broken.0 breach.place broken.2;
     })
 
@@ -75,8 +76,7 @@ never_records part same =
     omega (
       arith,
       ap number_of same,
-      among_each (λ part. 2 ≤ part_number part) parts part two_up
-          (among_got parts (order_of part) part (listed part)),
+      all_found (λ part. 2 ≤ part_number part) parts (order_of part) part two_up (listed part),
     )
 
 -- So a rule that a part breaks is broken by what was read.

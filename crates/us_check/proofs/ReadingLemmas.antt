@@ -1,7 +1,7 @@
 -- Reading a report line by line, and at places.
-use Rattle.std.proofs.Common.{◌≡◌, ℕ, ◌+◌, ◌<◌, ◌≤◌, List, [], ◌∷◌, ◌++◌, length, take, drop, get_or, Option, Some, None, option_map, option_to_list, refl, sym, ap, ◌∙◌, arith, add-one, length-append}
-use Rattle.std.specs.List.{cons_option}
+use Rattle.std.proofs.Common.{◌≡◌, ℕ, ◌+◌, ◌<◌, ◌≤◌, true, List, [], ◌∷◌, ◌++◌, length, take, drop, get_or, Option, Some, None, option_map, refl, sym, ap, ◌∙◌, arith, add-one, length-append}
 use Rattle.std.proofs.Math.Seq.{take-suc}
+use Rattle.std.proofs.lemmas.Bool.{le-leb}
 use Rattle.std.proofs.lemmas.List.{take_all}
 use Rattle.std.proofs.lemmas.List.Elements.{filter_map-append}
 use Rattle.us_output.specs.declared.rows.Row.{Row}
@@ -12,8 +12,8 @@ use Rattle.us_reports.proofs.ReportLineLemmas.{row_again, row_found}
 use Rattle.us_check.specs.declared.judging.Standing.{Standing}
 use Rattle.us_flows.specs.Tables.{Tables}
 use Rattle.std.specs.List.{AllByRecursion}
-use Rattle.us_output.proofs.PartLemmas.{all_append}
-use Rattle.us_map_rules.specs.RegionLines.{placed_line}
+use Rattle.us_output.proofs.PartLemmas.{all_append, all_at}
+use Rattle.us_map_rules.specs.RegionLines.{PlacedRegion, comes_next, is_behind, number_behind, placed_line}
 use Rattle.us_check.specs.Judges.{IsStanding, line_there, lines_there, map_told}
 
 -- so many lines were read up to a place, and this is so of them
@@ -63,23 +63,17 @@ pub line_some : (report : List ℕ) (at : ℕ) (row : Row) (next : ℕ) → IsLi
 line_some report at row next line =
     ap (option_map (λ (found : Row × List ℕ). found.0)) (ap row_at line.spelled ∙ row_again row (drop next report) line.is)
 
-one_kept : {X : Type 0} (o : Option X) → cons_option o [] ≡ option_to_list o
-one_kept None = refl
-one_kept (Some x) = refl
+pub there_behind : (report : List ℕ) (standings : List Standing) (s : Standing) (row : Row) → line_there report s.at ≡ Some row →
+    lines_there report (standings ++ s ∷ []) ≡ lines_there report standings ++ row ∷ []
+there_behind report standings s row there = filter_map-append (λ s. line_there report s.at) standings (s ∷ []) ∙ rw there refl
 
-pub there_behind : (report : List ℕ) (standings : List Standing) (s : Standing) →
-    lines_there report (standings ++ s ∷ []) ≡ lines_there report standings ++ option_to_list (line_there report s.at)
-there_behind report standings s =
-    filter_map-append (λ s. line_there report s.at) standings (s ∷ [])
-    ∙ ap (λ more. lines_there report standings ++ more) (one_kept (line_there report s.at))
-
-pub there_more : (report : List ℕ) (standings : List Standing) (i : ℕ) (d : Standing) → i < length standings →
-    lines_there report (take (i + 1) standings)
-    ≡ lines_there report (take i standings) ++ option_to_list (line_there report (get_or standings i d).at)
-there_more report standings i d inside =
+pub there_more : (report : List ℕ) (standings : List Standing) (i : ℕ) (d : Standing) (row : Row) → i < length standings →
+    line_there report (get_or standings i d).at ≡ Some row →
+    lines_there report (take (i + 1) standings) ≡ lines_there report (take i standings) ++ row ∷ []
+there_more report standings i d row inside there =
     let more : take (i + 1) standings ≡ take i standings ++ get_or standings i d ∷ [] =
     rw add-one (take-suc standings i d inside) in
-    ap (lines_there report) more ∙ there_behind report (take i standings) (get_or standings i d)
+    ap (lines_there report) more ∙ there_behind report (take i standings) (get_or standings i d) row there
 
 pub there_all : (report : List ℕ) (standings : List Standing) (i : ℕ) → length standings ≤ i →
     lines_there report (take i standings) ≡ lines_there report standings
@@ -95,6 +89,22 @@ pub standing_more : (t : Tables) (rounds : ℕ) (report : List ℕ) (standings :
     (lines : List Row) → line_there report s.at ≡ Some row → s.map ≡ map_told (placed_line t rounds row) →
     AreStandingsOf t rounds report standings lines → AreStandingsOf t rounds report (standings ++ s ∷ []) (lines ++ row ∷ [])
 standing_more t rounds report standings s row lines there is so = (
-  there_behind report standings s ∙ rw there (ap (λ ls. ls ++ row ∷ []) so.0),
+  there_behind report standings s row there ∙ ap (λ ls. ls ++ row ∷ []) so.0,
   all_append (IsStanding t rounds report) standings (s ∷ []) so.1 (rw there (ap Some (sym is)), tt),
 )
+
+-- a line that stands there comes next up to its MAP, and then the number is no more than that
+pub next_there : (t : Tables) (rounds number : ℕ) (report : List ℕ) (standings : List Standing) (i : ℕ) (d : Standing)
+    (row : Row) → AllByRecursion (IsStanding t rounds report) standings → i < length standings →
+    line_there report (get_or standings i d).at ≡ Some row → number ≤ (get_or standings i d).map →
+    (comes_next t rounds number row ≡ true)
+    × (number_behind number (placed_line t rounds row) ≤ (get_or standings i d).map)
+next_there t rounds number report standings i d row each inside there low =
+    let same : Some (map_told (placed_line t rounds row)) ≡ Some (get_or standings i d).map =
+    rw there at (all_at (IsStanding t rounds report) standings i d each inside) in
+    by (placed_line t rounds row) cc
+  where
+    by : (placed : Option PlacedRegion) → map_told placed ≡ (get_or standings i d).map →
+        (is_behind number placed ≡ true) × (number_behind number placed ≤ (get_or standings i d).map)
+    by None is = (refl, low)
+    by (Some q) is = (le-leb number q.map (omega (arith, is, low)), omega (arith, is))

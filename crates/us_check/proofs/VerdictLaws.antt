@@ -1,8 +1,8 @@
 -- Two texts have one answer, and it is `holds` where they are lawful.
-use Rattle.std.proofs.Common.{◌≡◌, ◌≢◌, ◌⊎◌, ℕ, zero, suc, ◌<◌, Bool, true, false, List, [], ◌∷◌, take, get_or, Some, Result, Ok, Err, refl, ap, ap₂, sym, subst, ◌∙◌, inl, inr, arith}
+use Rattle.std.proofs.Common.{◌≡◌, ◌≢◌, ◌⊎◌, ℕ, zero, suc, ◌<◌, List, [], ◌∷◌, take, get_or, Some, Result, Ok, Err, refl, ap, ap₂, sym, subst, ◌∙◌, inl, inr, arith}
 use Rattle.std.specs.Prelude.{slice_get}
 use Rattle.std.specs.List.{AllByRecursion}
-use Rattle.std.proofs.lemmas.Bool.{cases_Bool, cases_lt}
+use Rattle.std.proofs.lemmas.Bool.{cases_lt, false_from_ne_true}
 use Rattle.us_output.specs.declared.rows.Row.{Row}
 use Rattle.us_reports.specs.declared.place.Place.{Place}
 use Rattle.us_lawful.specs.Runs.{Run, RoundMap, Judged}
@@ -27,44 +27,38 @@ use Rattle.us_check.specs.Laws.{HoldsUnlessNoMemory}
 
 -- Readings.
 
--- what a result gives, or something else
-abbrev given : {A : Type 0} → A → Result A ℕ → A
-given other (Ok x) = x
-given other (Err n) = other
+same_ok : {A : Type 0} (a b : A) → ◌≡◌ {A = Result A ℕ} (Ok a) (Ok b) → a ≡ b
+same_ok a b same = cc
 
--- the number that it gives in place of that
-abbrev number : {A : Type 0} → Result A ℕ → ℕ
-number (Ok x) = 0
-number (Err n) = n
+same_err : {A : Type 0} (m n : ℕ) → ◌≡◌ {A = Result A ℕ} (Err m) (Err n) → m ≡ n
+same_err m n same = cc
 
--- it gives something
-abbrev Gives : {A : Type 0} → Result A ℕ → Type 0
-Gives (Ok x) = Unit {0}
-Gives (Err n) = ⊥
+never_both : {A : Type 0} (a : A) (n : ℕ) → ◌≡◌ {A = Result A ℕ} (Ok a) (Err n) → ⊥
+never_both a n same = cc
 
 -- a report has the same lines, whoever reads it,
 same_lines : (bytes : List ℕ) (a b : List Row) → IsReport bytes a → IsReport bytes b → a ≡ b
-same_lines bytes a b is other = ap (given []) (one_reading bytes (Ok a) (Ok b) is other)
+same_lines bytes a b is other = same_ok a b (one_reading bytes (Ok a) (Ok b) is other)
 
 -- or the same first bad line,
 same_bad_line : (bytes : List ℕ) (m n : ℕ) → IsFirstBad bytes m → IsFirstBad bytes n → m ≡ n
-same_bad_line bytes m n is other = ap number (one_reading bytes (Err m) (Err n) is other)
+same_bad_line bytes m n is other = same_err m n (one_reading bytes (Err m) (Err n) is other)
 
 -- and not both
 no_bad_line : (bytes : List ℕ) (lines : List Row) (n : ℕ) → IsReport bytes lines → IsFirstBad bytes n → ⊥
-no_bad_line bytes lines n is bad = subst Gives (one_reading bytes (Ok lines) (Err n) is bad) tt
+no_bad_line bytes lines n is bad = never_both lines n (one_reading bytes (Ok lines) (Err n) is bad)
 
 -- So it is of the records of a maps file.
 same_maps : OneReadingOfMaps → (bytes : List ℕ) (a b : List RoundMap) → IsMapsOf bytes a → IsMapsOf bytes b → a ≡ b
-same_maps one bytes a b is other = ap (given []) (one bytes (Ok a) (Ok b) is other)
+same_maps one bytes a b is other = same_ok a b (one bytes (Ok a) (Ok b) is other)
 
 same_bad_record : OneReadingOfMaps → (bytes : List ℕ) (m n : ℕ) → IsFirstBadRecord bytes m → IsFirstBadRecord bytes n →
     m ≡ n
-same_bad_record one bytes m n is other = ap number (one bytes (Err m) (Err n) is other)
+same_bad_record one bytes m n is other = same_err m n (one bytes (Err m) (Err n) is other)
 
 no_bad_record : OneReadingOfMaps → (bytes : List ℕ) (maps : List RoundMap) (n : ℕ) → IsMapsOf bytes maps →
     IsFirstBadRecord bytes n → ⊥
-no_bad_record one bytes maps n is bad = subst Gives (one bytes (Ok maps) (Err n) is bad) tt
+no_bad_record one bytes maps n is bad = never_both maps n (one bytes (Ok maps) (Err n) is bad)
 
 -- so what two texts are read as is one thing
 same_read : OneReadingOfMaps → (maps report : List ℕ) (a b : Judged) → AreRead maps report a → AreRead maps report b →
@@ -150,17 +144,13 @@ is_read run maps report breach is = elim (by_either run maps report breach breac
   | inr told ↦ (told.0.lines, told.1.lines)
 ]
 
--- what never is true is false
-is_false : (x : Bool) → (x ≡ true → ⊥) → x ≡ false
-is_false x never = elim (cases_Bool x) [ inl is ↦ absurd (never is) | inr not ↦ not ]
-
 -- a rule is broken first at one place
 one_place : (run : Run) (Rule : Place → Type 0) (a b : Place) →
     IsFirstBreach run.tables.channels Rule (Some a) → IsFirstBreach run.tables.channels Rule (Some b) → a ≡ b
 one_place run Rule a b first other =
     before-equal run.tables.channels a b
-    (is_false (goes_before run.tables.channels a b) (λ before. first.0 (other.1 a before)))
-    (is_false (goes_before run.tables.channels b a) (λ before. other.0 (first.1 b before)))
+    (false_from_ne_true (goes_before run.tables.channels a b) (λ before. first.0 (other.1 a before)))
+    (false_from_ne_true (goes_before run.tables.channels b a) (λ before. other.0 (first.1 b before)))
 
 -- what holds of the first so many items does of each of them
 held : {X : Type 0} (P : X → Type 0) (xs : List X) (n count : ℕ) (x : X) → slice_get xs n ≡ Some x → n < count →

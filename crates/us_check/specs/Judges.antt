@@ -1,5 +1,5 @@
 -- What a judge is told, and what is answered of a report that is read for it.
-use Rattle.std.specs.Prelude.{◌≡◌, ◌&&◌, Bool, ℕ, List, sum_by, drop, filter_map, option_map, unwrap_or, Option, Some, None, Result, Ok, Err}
+use Rattle.std.specs.Prelude.{◌≡◌, ℕ, ◌*◌, ◌≤◌, List, length, sum_by, drop, filter_map, option_map, unwrap_or, Option, Some, None, Result, Ok, Err}
 use Rattle.std.specs.List.{AllByRecursion}
 use Rattle.std.specs.List.Sorted.{IsNonDecreasingBy, IsPermutation}
 use Rattle.us_flows.specs.Tables.{Tables}
@@ -14,8 +14,7 @@ use Rattle.us_reports.specs.Breaches.{Any, IsFirstBreach, IsFirstFailure}
 use Rattle.us_map_rules.specs.MapsReading.{IsMapsOf}
 use Rattle.us_map_rules.specs.LackedPlaces.{IsOfLackedPlace}
 use Rattle.us_map_rules.specs.Gathered as regions
-use Rattle.us_map_rules.specs.RegionLines as placing
-use Rattle.us_map_rules.specs.RegionLines.{PlacedRegion}
+use Rattle.us_map_rules.specs.RegionLines.{PlacedRegion, placed_line}
 use Rattle.us_map_rules.specs.Told as calendar
 use Rattle.us_credit_rules.specs.CreditLines as credits
 use Rattle.us_check.specs.declared.judges.Judge.{Judge}
@@ -24,27 +23,23 @@ use Rattle.us_check.specs.declared.rules.Breach.{Breach}
 use Rattle.us_check.specs.declared.rules.Rule.{Rule}
 use Rattle.us_check.specs.declared.faults.CheckFault.{CheckFault}
 use Rattle.us_check.specs.declared.faults.CheckFault.TheVariants as fault
-use Rattle.us_check.specs.declared.verdicts.Verdict.{Verdict}
-use Rattle.us_check.specs.Verdicts.{Answers}
+use Rattle.us_check.specs.Verdicts.{IsBroken}
 
--- each rule is told these lines, in this order, beside the MAPs of a maps file
+-- each rule is told these lines, in this order, beside the MAPs of a maps file; no request is of a round behind the MAP whose
+-- lines come
 pub record AllAreTold (t : Tables) (v : TraceAsks) (file : List ℕ) (maps : List RoundMap) (lines : List Row) (j : Judge) :
     Type 0 where
   pub regions : regions.AreTold (run_in t v) file maps lines j.regions
   pub run : j.calendar.run ≡ run_in t v
   pub calendar : calendar.AreTold lines j.calendar
   pub credits : credits.AreKept t v lines j.credits
+  pub latest : j.credits.requests.latest * length t.channels ≤ j.regions.number
 
 -- so it is where the run has the round and the channel of each line; else the first place that it lacks is known
 pub record AreTold (t : Tables) (v : TraceAsks) (file : List ℕ) (maps : List RoundMap) (lines : List Row) (j : Judge) :
     Type 0 where
   pub lacked : IsFirstFailure t.channels (Any (IsOfLackedPlace (run_in t v)) lines) j.lacked
   pub all : j.lacked ≡ None → AllAreTold t v file maps lines j
-
--- a line comes behind none of a later MAP, and behind no request of a later round
-abbrev pub comes_next : Tables → ℕ → Judge → Row → Bool
-comes_next t rounds j line =
-    placing.comes_next t rounds j.regions.number line && credits.is_due j.credits.requests.latest line
 
 -- these lines in whatever order
 abbrev pub AreSame : List Row → List Row → Type 0
@@ -81,20 +76,20 @@ lines_there report standings = filter_map (λ s. line_there report s.at) standin
 
 -- the line that stands there is for the MAP of this number, or for none, and the number is 0
 abbrev pub IsStanding : Tables → ℕ → List ℕ → Standing → Type 0
-IsStanding t rounds report s = option_map (λ line. map_told (placing.placed_line t rounds line)) (line_there report s.at) ≡ Some s.map
+IsStanding t rounds report s = option_map (λ line. map_told (placed_line t rounds line)) (line_there report s.at) ≡ Some s.map
 
 -- all lines stand at these places, which are in the order of MAPs
 pub record AreStandings (t : Tables) (rounds : ℕ) (report : List ℕ) (standings : List Standing) : Type 0 where
   pub read : List Standing
   pub moved : IsPermutation read standings
   pub lines : IsReport report (lines_there report read)
-  pub each : AllByRecursion (IsStanding t rounds report) read
+  pub each : AllByRecursion (IsStanding t rounds report) standings
   pub rising : IsNonDecreasingBy (λ s. s.map) standings
 
--- what is answered of a maps file alone: its headings hold, or the verdict whatever lines a report has
-abbrev pub IsMapsVerdict : Run → List ℕ → Option Verdict → Type 0
-IsMapsVerdict run file None =
+-- what a maps file breaks by itself: its headings hold, or it breaks a rule first there, whatever lines a report has
+abbrev pub IsMapsBreach : Run → List ℕ → Option Breach → Type 0
+IsMapsBreach run file None =
     (maps : List RoundMap) × IsMapsOf file maps
     × ((lines : List Row) → IsFirstBreach run.tables.channels (HeadingsHold run (record { maps = maps; lines = lines })) None)
-IsMapsVerdict run file (Some verdict) =
-    (report : List ℕ) (lines : List Row) → IsReport report lines → Answers run file report (Ok verdict)
+IsMapsBreach run file (Some breach) =
+    (report : List ℕ) (lines : List Row) → IsReport report lines → IsBroken run file report breach breach.rule

@@ -1,4 +1,4 @@
-ghost use Rattle.std.specs.Prelude.{◌≡◌, ◌++◌, ◌∷◌, [], true, false, ℕ, List, None, IfOk};
+ghost use Rattle.std.specs.Prelude.{◌≡◌, ◌++◌, ◌∷◌, [], true, ℕ, List, None, IfOk};
 ghost use Rattle.std.specs.List.Sorted.{IsPermutation};
 ghost use Rattle.us_flows.specs.Tables.{rounds_fit};
 ghost use Rattle.us_output.specs.declared.rows.Row.{Row as ReportRow};
@@ -6,6 +6,7 @@ ghost use Rattle.us_lawful.specs.Runs.{RoundMap, run_in};
 ghost use Rattle.us_lawful.specs.Headings.{HeadingsHold};
 ghost use Rattle.us_reports.specs.Breaches.{IsFirstBreach};
 ghost use Rattle.us_map_rules.specs.MapsReading.{IsMapsOf};
+ghost use Rattle.us_map_rules.specs.RegionLines.{comes_next, number_behind, placed_line};
 ghost use Rattle.us_check.specs.Judges as spec;
 ghost use Rattle.us_check.specs.Verdicts.{IsAnswer};
 
@@ -42,8 +43,9 @@ impl<'a> Judge<'a> {
         trace: &'a Trace,
     ) -> Result<Judge<'a>, NoMemory>
         requires { rounds_fit config.now trace.now.rounds ≡ true }
-        ensures { IfOk result (λ judge. (file : List ℕ) (maps : List RoundMap) → IsMapsOf file maps →
+        ensures told { IfOk result (λ judge. (file : List ℕ) (maps : List RoundMap) → IsMapsOf file maps →
             spec.AreTold config.now trace.now file maps [] judge) }
+        ensures number { IfOk result (λ judge. judge.regions.number ≡ 0) }
     {
         Ok(Judge {
             lacked: None,
@@ -56,6 +58,7 @@ impl<'a> Judge<'a> {
     /// Tells a line more. One that comes too late, behind lines of later MAPs, isn't told: the answer is no. Behind a line whose
     /// round or channel the run lacks a line may come too late, since the place of that one is the answer whatever the others
     /// say.
+    #[inline(always)]
     pub(crate) fn take(
         &mut self,
         config: &Config,
@@ -68,8 +71,9 @@ impl<'a> Judge<'a> {
         ensures told { IfOk result (λ told. told ≡ true → (maps : List RoundMap) (lines : List ReportRow) →
             spec.AreTold config.now trace.now file.now maps lines self.old →
             spec.AreTold config.now trace.now file.now maps (lines ++ row.now ∷ []) self.new) }
-        ensures late { IfOk result (λ told. told ≡ false →
-            spec.comes_next config.now trace.now.rounds self.old row.now ≡ false) }
+        ensures next { IfOk result (λ told. comes_next config.now trace.now.rounds self.old.regions.number row.now ≡ true →
+            (told ≡ true) × (self.new.regions.number ≡
+            number_behind self.old.regions.number (placed_line config.now trace.now.rounds row.now))) }
     {
         match self.regions.take(config, trace, file, row)? {
             Taken::Lacked(place) => {
@@ -81,10 +85,6 @@ impl<'a> Judge<'a> {
         }
         if self.lacked.is_some() {
             return Ok(true);
-        }
-        // It is due, since its MAP is no earlier one, but no clause says so.
-        if !self.credits.is_due(row) {
-            return Ok(false);
         }
         self.calendar.take(row)?;
         self.credits.take(config, trace, row);
@@ -124,7 +124,7 @@ impl<'a> Judge<'a> {
 }
 
 /// That a rule is broken at a place, where there is one.
-fn broken(rule: Rule, place: Option<Place>) -> Option<Breach>
+pub(crate) fn broken(rule: Rule, place: Option<Place>) -> Option<Breach>
     ensures { result ≡ spec.broken rule place }
 {
     Some(Breach {

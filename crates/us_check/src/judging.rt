@@ -1,9 +1,9 @@
-ghost use Rattle.std.specs.Prelude.{◌≡◌, ◌++◌, [], List, length, true, option_to_list, OnOk, IfOk};
+ghost use Rattle.std.specs.Prelude.{◌≡◌, [], List, length, true, OnOk, IfOk};
 ghost use Rattle.std.specs.List.{AllByRecursion};
 ghost use Rattle.us_flows.specs.Tables.{rounds_fit};
 ghost use Rattle.us_output.specs.declared.rows.Row.{Row as ReportRow};
 ghost use Rattle.us_lawful.specs.Runs.{RoundMap, run_in};
-ghost use Rattle.us_reports.specs.Reports.{IsLinesEnd, IsReport};
+ghost use Rattle.us_reports.specs.Reports.{IsReport};
 ghost use Rattle.us_lawful.specs.Headings.{HeadingsHold};
 ghost use Rattle.us_reports.specs.Breaches.{IsFirstBreach};
 ghost use Rattle.us_map_rules.specs.MapsReading.{IsMapsOf};
@@ -16,7 +16,7 @@ use crate::rules::Breach;
 use std::alloc::Global;
 use us_flows::Config;
 use us_map_rules::map_of;
-use us_reports::{ANY_ROW, line_at, lines_end, read_line};
+use us_reports::{LineReader, line_at, lines_end};
 use us_requests::Trace;
 use us_slots::NoMemory;
 
@@ -25,11 +25,12 @@ pub(crate) fn read_lines(report: &[u8]) -> Result<(), CheckFault>
     ensures { spec.Reads report.now (λ _. (lines : List ReportRow) × IsReport report.now lines) result }
 {
     let end = lines_end(report);
+    let mut reader = LineReader::new();
     let mut number = 0;
     let mut at = 0;
     while at < report.len() {
         number += 1;
-        let Some((_, behind)) = line_at(report, end, at) else {
+        let Some(behind) = reader.read(report, end, at) else {
             return Err(CheckFault::Report(number));
         };
         at = behind;
@@ -80,7 +81,7 @@ fn told_judge<'a>(
     Ok(sorted)
 }
 
-/// Tells a judge the lines of a report as they stand, up to the first that comes too late. Answers whether that were all.
+/// Tells a judge the lines of a report as they stand, up to the first that comes too late. Answers whether these were all.
 fn take_in_order(
     judge: &mut Judge,
     config: &Config,
@@ -95,15 +96,15 @@ fn take_in_order(
         × spec.AreTold config.now trace.now maps.now ms lines judge.new) result }
 {
     let end = lines_end(report);
-    let mut row = ANY_ROW;
+    let mut reader = LineReader::new();
     let mut number = 0;
     let mut at = 0;
     while at < report.len() {
         number += 1;
-        let Some(behind) = read_line(report, end, at, &mut row) else {
+        let Some(behind) = reader.read(report, end, at) else {
             return Err(CheckFault::Report(number));
         };
-        if !judge.take(config, trace, maps, &row)? {
+        if !judge.take(config, trace, maps, reader.row())? {
             return Ok(false);
         }
         at = behind;
@@ -156,7 +157,7 @@ fn standings_as_read(
     Ok(standings)
 }
 
-/// Tells a judge the lines of a report that stand at these places.
+/// Tells a judge the lines of a report that stand at these places. They are in the order of MAPs, so none is too late.
 fn take_sorted(
     judge: &mut Judge,
     config: &Config,
@@ -165,43 +166,20 @@ fn take_sorted(
     report: &[u8],
     standings: &[Standing],
 ) -> Result<(), NoMemory>
-    requires { (ms : List RoundMap) × spec.AreTold config.now trace.now maps.now ms [] judge.old }
+    requires told { (ms : List RoundMap) × spec.AreTold config.now trace.now maps.now ms [] judge.old }
+    requires first { judge.old.regions.number ≡ 0 }
+    requires stand { spec.AreStandings config.now trace.now.rounds report.now standings.now }
     ensures { OnOk result ((ms : List RoundMap) → spec.AreTold config.now trace.now maps.now ms [] judge.old →
         spec.AreTold config.now trace.now maps.now ms (spec.lines_there report.now standings.now) judge.new) }
 {
     let end = lines_end(report);
     for standing in standings {
-        take_at(judge, config, trace, maps, report, end, standing.at)?;
-    }
-    Ok(())
-}
-
-/// Tells a judge the line of a report that stands at a place, if one does. No line is behind those of later MAPs: one that
-/// were would be answered as want of memory.
-fn take_at(
-    judge: &mut Judge,
-    config: &Config,
-    trace: &Trace,
-    maps: &[u8],
-    report: &[u8],
-    end: usize,
-    at: usize,
-) -> Result<(), NoMemory>
-    requires end { IsLinesEnd report.now end }
-    requires told { (ms : List RoundMap) × (lines : List ReportRow)
-        × spec.AreTold config.now trace.now maps.now ms lines judge.old }
-    ensures { OnOk result ((ms : List RoundMap) (lines : List ReportRow) →
-        spec.AreTold config.now trace.now maps.now ms lines judge.old →
-        spec.AreTold config.now trace.now maps.now ms (lines ++ option_to_list (spec.line_there report.now at)) judge.new) }
-{
-    match line_at(report, end, at) {
-        None => Ok(()),
-        Some((row, _)) => {
-            if judge.take(config, trace, maps, &row)? {
-                Ok(())
-            } else {
-                Err(NoMemory)
-            }
+        let Some((row, _)) = line_at(report, end, standing.at) else {
+            unreachable!()
+        };
+        if !judge.take(config, trace, maps, &row)? {
+            unreachable!()
         }
     }
+    Ok(())
 }

@@ -1,4 +1,4 @@
--- What the lines of a flow credit in a round, in whatever order lines are.
+-- What the lines of a flow credit in a round.
 use Rattle.std.proofs.Common.{◌≡◌, ℕ, ◌<◌, ◌==◌, Bool, true, false, List, [], ◌∷◌, cond, refl, sym, ◌∙◌, inl, inr, arith}
 use Rattle.std.specs.Prelude.{◌&&◌, nat_lt, filter, sum_by}
 use Rattle.std.proofs.lemmas.Bool.{cases_eq, lt-ltb, ne_eqb}
@@ -7,7 +7,7 @@ use Rattle.us_output.specs.declared.rows.Grant.{Grant}
 use Rattle.us_output.specs.declared.rows.Row.{Row}
 use Rattle.us_lawful.specs.Runs.{requested_in}
 use Rattle.us_lawful.specs.Rates.{flow_credit}
-use Rattle.us_lawful.proofs.SameLemmas.{Same, same_filter, sum_filter}
+use Rattle.us_lawful.proofs.SameLemmas.{sum_filter}
 use Rattle.us_credit_rules.proofs.WalkLemmas.{credit_in}
 
 pub sum_pointwise : {X : Type 0} (f g : X → ℕ) → ((x : X) → f x ≡ g x) → (xs : List X) → sum_by f xs ≡ sum_by g xs
@@ -25,13 +25,12 @@ credit_sum [] round = refl
 credit_sum (g ∷ lines) round =
     omega (arith, credit_sum lines round, sum_by-cons (λ (g : Grant). cond (g.round == round) g.credit 0) g lines)
 
-pub flow_credit_is : (rounds id round : ℕ) (lines : List Row) (grants : List Grant) → round < rounds →
-    Same (requested_in lines) grants → flow_credit lines id round ≡ credit_in (own_lines rounds id grants) round
-flow_credit_is rounds id round lines grants within moved =
+pub flow_credit_is : (rounds id round : ℕ) (lines : List Row) → round < rounds →
+    flow_credit lines id round ≡ credit_in (own_lines rounds id (requested_in lines)) round
+flow_credit_is rounds id round lines within =
+    let grants : List Grant = requested_in lines in
     let now : Grant → ℕ = λ g. cond (g.round == round) g.credit 0 in
-    same_filter (λ (g : Grant). (g.id == id) && (g.round == round)) (requested_in lines) grants
-    moved (λ (g : Grant). g.credit)
-    ∙ sum_filter (λ (g : Grant). g.credit) (λ g. (g.id == id) && (g.round == round)) grants
+    sum_filter (λ (g : Grant). g.credit) (λ g. (g.id == id) && (g.round == round)) grants
     ∙ sum_pointwise (λ (g : Grant). cond ((g.id == id) && (g.round == round)) g.credit 0)
     (λ g. cond ((g.id == id) && nat_lt g.round rounds) (now g) 0) (λ g. one (g.id == id) g) grants
     ∙ sym (sum_filter now (λ (g : Grant). (g.id == id) && nat_lt g.round rounds) grants)

@@ -17,7 +17,6 @@ use Rattle.us_bucket.proofs.LevelLemmas.{refilled-rate, refilled-burst, spent-ra
 use Rattle.us_requests.specs.Traces.{TraceAsks}
 use Rattle.us_output.specs.declared.rows.Row.{Row}
 use Rattle.us_output.proofs.PartLemmas.{all_weaker}
-use Rattle.us_lawful.proofs.SameLemmas.{Same}
 use Rattle.us_lawful.specs.Runs.{Run, requested_in, run_in}
 use Rattle.us_lawful.specs.Rates.{flow_credit, flow_rate_holds}
 use Rattle.us_lawful.specs.Finals.{level_left, units_left}
@@ -76,10 +75,26 @@ record IsWalked (ticks rounds : ℕ) (l : Level) (f : ℕ → ℕ) (a : FlowAcco
 -- in a later round
 grown : (ticks rounds : ℕ) (l : Level) (f : ℕ → ℕ) (a : FlowAccount) (round : ℕ) → IsLevel l →
     IsWalked ticks rounds l f a → a.as_of ≤ round → level_in ticks a.as_of a.bucket round ≡ behind ticks l f round
-grown ticks rounds l f a round is walked later =
-    let count : a.as_of + (round - a.as_of) ≡ round = omega (arith, later) in
-    ap (refilled ((round - a.as_of) * ticks)) walked.bucket
-    ∙ sym (behind_quiet ticks l f a.as_of (round - a.as_of) is walked.quiet) ∙ ap (behind ticks l f) count
+grown ticks rounds l f a round is walked later = elim (cases_eq a.as_of round) [
+  | inl same ↦ ap level (eq-eqb a.as_of round same) ∙ walked.bucket ∙ ap (behind ticks l f) same
+  | inr other ↦
+      let count : a.as_of + (round - a.as_of) ≡ round = omega (arith, later) in
+      ap level (ne_eqb a.as_of round other) ∙ ap (refilled ((round - a.as_of) * ticks)) walked.bucket
+      ∙ sym (behind_quiet ticks l f a.as_of (round - a.as_of) is walked.quiet) ∙ ap (behind ticks l f) count
+]
+  where
+    level : Bool → Level
+    level same = if same then a.bucket else refilled ((round - a.as_of) * ticks) a.bucket
+
+-- of the same flow
+grown_flow : (ticks at round : ℕ) (l : Level) →
+    ((level_in ticks at l round).rate ≡ l.rate) × ((level_in ticks at l round).burst ≡ l.burst)
+grown_flow ticks at round l = either (at == round)
+  where
+    either : (same : Bool) → ((if same then l else refilled ((round - at) * ticks) l).rate ≡ l.rate)
+        × ((if same then l else refilled ((round - at) * ticks) l).burst ≡ l.burst)
+    either true = (refl, refl)
+    either false = (refilled-rate ((round - at) * ticks) l, refilled-burst ((round - at) * ticks) l)
 
 -- with one credit more
 module _ (ticks rounds : ℕ) (l : Level) (f h : ℕ → ℕ) (a : FlowAccount) (g : Grant) (is : IsLevel l)
@@ -103,13 +118,15 @@ module _ (ticks rounds : ℕ) (l : Level) (f h : ℕ → ℕ) (a : FlowAccount) 
   start : before ticks l h g.round ≡ before ticks l f g.round
   start = before_same ticks l h f g.round (λ k sooner. other k (λ same. omega (arith, same, sooner)))
 
+  own_flow : (now.rate ≡ a.bucket.rate) × (now.burst ≡ a.bucket.burst)
+  own_flow = grown_flow ticks a.as_of g.round a.bucket
+
   taken : next.bucket ≡ spent g.credit now
   taken = elim (cases_Bool (has now g.credit)) [
     | inl enough ↦ ap (λ b. if b then spent g.credit now else a.empty) enough
     | inr short ↦
         ap (λ b. if b then spent g.credit now else a.empty) short ∙ walked.empty
-        ∙ ap₂ (λ rate burst. spent burst (full rate burst)) (sym (refilled-rate ((g.round - a.as_of) * ticks) a.bucket))
-        (sym (refilled-burst ((g.round - a.as_of) * ticks) a.bucket))
+        ∙ ap₂ (λ rate burst. spent burst (full rate burst)) (sym own_flow.0) (sym own_flow.1)
         ∙ emptied now g.credit short
   ]
 
@@ -133,8 +150,8 @@ module _ (ticks rounds : ℕ) (l : Level) (f h : ℕ → ℕ) (a : FlowAccount) 
     quiet = λ k late. other k (λ same. omega (arith, same, late)) ∙ walked.quiet k (omega (arith, late, later));
     empty = walked.empty
         ∙ ap₂ (λ rate burst. spent burst (full rate burst))
-        (sym (ap (λ (l : Level). l.rate) taken ∙ spent-rate g.credit now ∙ refilled-rate ((g.round - a.as_of) * ticks) a.bucket))
-        (sym (ap (λ (l : Level). l.burst) taken ∙ spent-burst g.credit now ∙ refilled-burst ((g.round - a.as_of) * ticks) a.bucket));
+        (sym (ap (λ (l : Level). l.rate) taken ∙ spent-rate g.credit now ∙ own_flow.0))
+        (sym (ap (λ (l : Level). l.burst) taken ∙ spent-burst g.credit now ∙ own_flow.1));
     short = first_next rounds g.round (has_round ticks l f) (has_round ticks l h) (not (has now g.credit)) a.short early
         (λ k sooner. ap₂ (λ level bytes. has level bytes)
         (before_same ticks l h f k (λ i under. other i (λ same. omega (arith, same, under, sooner))))
@@ -270,11 +287,12 @@ first_end t flow f rounds (Some first) some is = (
 )
 
 -- what is answered of a flow
-pub flow_is : (t : Tables) (v : TraceAsks) (lines : List Row) (grants : List Grant) (latest i : ℕ) (flow : FlowTable) →
-    AreTables t → slice_get t.flows i ≡ Some flow → makes_requests flow.kind ≡ true → 0 < v.rounds →
-    Same (requested_in lines) grants → RisesTo 0 latest grants →
-    IsFlowAccountOf (run_in t v) lines flow (account_of (credited_all v.rounds t grants) i)
-flow_is t v lines grants latest i flow lawful at asks some moved ordered =
+pub flow_is : (t : Tables) (v : TraceAsks) (lines : List Row) (latest i : ℕ) (flow : FlowTable) → AreTables t →
+    slice_get t.flows i ≡ Some flow → makes_requests flow.kind ≡ true → 0 < v.rounds →
+    RisesTo 0 latest (requested_in lines) →
+    IsFlowAccountOf (run_in t v) lines flow (account_of (credited_all v.rounds t (requested_in lines)) i)
+flow_is t v lines latest i flow lawful at asks some ordered =
+    let grants : List Grant = requested_in lines in
     let ticks : ℕ = t.round_ticks in
     let last : ℕ = v.rounds - 1 in
     let made : FlowTable → FlowAccount = λ flow. full_account flow.rate flow.burst in
@@ -301,7 +319,7 @@ flow_is t v lines grants latest i flow lawful at asks some moved ordered =
       short = λ round within. has-nothing (before ticks l (credit_in []) round);
     }) rising inside in
     let same : (k : ℕ) → k < v.rounds → flow_credit lines flow.id k ≡ credit_in own k =
-    (λ k within. flow_credit_is v.rounds flow.id k lines grants within moved) in
+    (λ k within. flow_credit_is v.rounds flow.id k lines within) in
     let done : IsFlowAccountOf (run_in t v) lines flow (fold (step ticks) start own) = record {
       short = λ limited.
           let ends : ℕ → Bool = ends_well t flow (rounds_of (flow_credit lines flow.id) 0 v.rounds) in

@@ -1,4 +1,4 @@
--- What is kept of the lines of a run says what the run's rules read of them, in whatever order they stand.
+-- What is kept of the lines of a run says what the run's rules read of them.
 use Rattle.std.proofs.Common.{◌≡◌, ℕ, ◌<◌, ◌*◌, true, List, [], ◌∷◌, ◌++◌, length, Some, ap, subst, sym, ◌∙◌}
 use Rattle.std.specs.Prelude.{nat_le, filter, slice_get}
 use Rattle.std.specs.List.{AllByRecursion}
@@ -16,33 +16,25 @@ use Rattle.us_output.specs.declared.rows.Grant.{Grant}
 use Rattle.us_output.specs.declared.rows.Row.{Row}
 use Rattle.us_lawful.specs.Runs.{activities_in, as_activity, as_counts, as_final, as_grant, counts_in, finals_in, grants_in, requested_in, run_in}
 use Rattle.us_reports.specs.Rows.{is_requested}
-use Rattle.us_lawful.proofs.SameLemmas.{Same, same_filter, same_filter_map, same_moved}
 use Rattle.us_credit_rules.specs.declared.credit_lines.CreditLines.{CreditLines}
 use Rattle.us_credit_rules.specs.Activities.{AreTalkers}
 use Rattle.us_credit_rules.specs.Buckets.{account_of}
-use Rattle.us_credit_rules.specs.CreditLines.{AreCreditLines, AreKept}
+use Rattle.us_credit_rules.specs.CreditLines.{AreKept}
 use Rattle.us_credit_rules.specs.Ledgers.{IsCredited, account_at}
 use Rattle.us_credit_rules.specs.Requests.{AreRequests}
 use Rattle.us_credit_rules.specs.Seats.{word_of}
 use Rattle.us_credit_rules.specs.Tellings.{AreTold, told_by}
 use Rattle.us_credit_rules.proofs.FlowLemmas.{IsFlowAccountOf, flow_is}
 
--- lines of requests
-pub requests_moved : (lines told : List Row) → Same lines told → Same (requested_in lines) (requested_in told)
-requests_moved lines told moved =
-    same_filter (λ (g : Grant). is_requested g.entry) (grants_in lines) (grants_in told)
-    (same_filter_map as_grant lines told moved)
-
--- and the account of a flow that makes requests
+-- the account of a flow that makes requests
 pub flow_account : (t : Tables) (v : TraceAsks) (lines : List Row) (kept : CreditLines) (i : ℕ) (flow : FlowTable) →
-    AreTables t → slice_get t.flows i ≡ Some flow → makes_requests flow.kind ≡ true → AreCreditLines t v lines kept →
+    AreTables t → slice_get t.flows i ≡ Some flow → makes_requests flow.kind ≡ true → AreKept t v lines kept →
     IsFlowAccountOf (run_in t v) lines flow (account_of kept.requests.flows.items i)
 flow_account t v lines kept i flow lawful at asks are =
-    let requests = are.2.requests in
+    let requests = are.requests in
     let some : 0 < v.rounds =
     leb-true 1 v.rounds (and_parts (nat_le 1 v.rounds) (nat_le (v.rounds * t.round_ticks) max_run_ticks) requests.fits).0 in
-    rw requests.flows (flow_is t v lines (requested_in are.0) kept.requests.latest i flow lawful at asks some
-    (requests_moved lines are.0 (same_moved lines are.0 are.1)) requests.rises)
+    rw requests.flows (flow_is t v lines kept.requests.latest i flow lawful at asks some requests.rises)
 
 -- and each cluster, with its account
 abbrev pub IsCreditedTurn : Tables → TraceAsks → List Row → CreditLines → Turn → Type 0

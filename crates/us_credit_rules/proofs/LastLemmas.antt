@@ -1,6 +1,6 @@
 -- F lines, A lines and U lines are judged by what they tell.
 use Rattle.std.proofs.Common.{◌≡◌, ℕ, ◌-◌, ◌<◌, ◌==◌, Bool, true, false, List, length, map, get_or, Option, Some, refl, sym, subst, ap, ap₂, ◌∙◌, inl, inr, arith, eq-eqb, ne_eqb, zero, suc, [], ◌∷◌, None}
-use Rattle.std.specs.Prelude.{◌&&◌, nat_eq, if◌then◌else◌, slice_index, sum_by}
+use Rattle.std.specs.Prelude.{◌&&◌, nat_eq, if◌then◌else◌, slice_index}
 use Rattle.std.specs.List.{list_all, list_any, AllByRecursion}
 use Rattle.std.specs.Option.{is_some, option_eq}
 use Rattle.std.proofs.lemmas.Bool.{cases_eq, false≢true, and_parts, cases_Bool, eqb-true}
@@ -12,9 +12,8 @@ use Rattle.us_requests.specs.Traces.{IsTrace, TraceAsks}
 use Rattle.us_output.specs.declared.rows.FinalState.{FinalState}
 use Rattle.us_output.proofs.PartLemmas.{all_both, all_weaker}
 use Rattle.us_reports.specs.declared.place.Place.{Place}
-use Rattle.us_lawful.specs.Runs.{Judged, as_final, finals_in, requested_in, run_in, activities_in, as_activity, as_counts, counts_in, counts_told}
+use Rattle.us_lawful.specs.Runs.{Judged, finals_in, run_in, activities_in, counts_in, counts_told}
 use Rattle.us_lawful.specs.Finals.{final_holds, final_of, finals_hold, is_final_of, is_same_final, activities_hold, activity_holds, activity_of, is_same_activity, talking, counts_hold, is_same_counts}
-use Rattle.us_lawful.proofs.SameLemmas.{Same, same_all, same_any, same_count, same_filter_map, same_moved}
 use Rattle.us_reports.specs.Order.{earlier}
 use Rattle.us_reports.specs.Breaches.{Any, At, IsFirstBreach, IsFirstFailure}
 use Rattle.us_reports.proofs.BreachLemmas.{same_places, at_test, holds_first}
@@ -22,14 +21,14 @@ use Rattle.us_reports.proofs.AnyLemmas.{any_each}
 use Rattle.us_credit_rules.specs.declared.credit_lines.CreditLines.{CreditLines}
 use Rattle.us_credit_rules.specs.declared.ledgers.Account.{Account}
 use Rattle.us_credit_rules.specs.declared.told.Told.TheVariants.{Nothing}
-use Rattle.us_credit_rules.specs.CreditLines.{AreCreditLines}
+use Rattle.us_credit_rules.specs.CreditLines.{AreKept}
 use Rattle.us_credit_rules.specs.Ends.{end_place, first_of, unless}
 use Rattle.us_credit_rules.specs.LastLines.{final_place, is_right, tells}
 use Rattle.us_credit_rules.specs.Ledgers.{AreAsked, account_at}
 use Rattle.us_credit_rules.specs.Seats.{is_number, names, word_of}
 use Rattle.us_credit_rules.specs.Tellings.{is_once, told_by}
 use Rattle.us_credit_rules.proofs.EndLemmas.{EndFails, ends_first, first_among}
-use Rattle.us_credit_rules.proofs.KeptLemmas.{IsCreditedTurn, credited_turns, flow_account, requests_moved}
+use Rattle.us_credit_rules.proofs.KeptLemmas.{IsCreditedTurn, credited_turns, flow_account}
 use Rattle.us_credit_rules.proofs.LedgerLemmas.{left_is}
 use Rattle.us_credit_rules.proofs.SeatLemmas.{any_word, named_word}
 use Rattle.us_credit_rules.proofs.TellingLemmas.{once_told, one_told}
@@ -44,7 +43,6 @@ use Rattle.us_credit_rules.specs.declared.talkers.Talker.{Talker}
 use Rattle.us_credit_rules.specs.declared.told.Told.{Told}
 use Rattle.us_credit_rules.specs.Activities.{line_of, talker_at, talker_of, talker_place}
 use Rattle.us_credit_rules.proofs.TalkerLemmas.{lines_are}
-use Rattle.std.proofs.lemmas.List.Sums.{sum_by-cons}
 use Rattle.us_flows.specs.declared.channels.Channel.{Channel}
 use Rattle.us_output.specs.declared.rows.TraceCounts.{TraceCounts}
 use Rattle.us_reports.proofs.OrderLemmas.{place-is}
@@ -74,11 +72,8 @@ same_parts right f turn flow list =
     grouped false b c d = refl
 
 module _ (t : Tables) (v : TraceAsks) (judged : Judged) (kept : CreditLines) (lawful : AreTables t) (trace : IsTrace v)
-    (are : AreCreditLines t v judged.lines kept) (all : List ℕ) (asked : AreAsked v v.rounds all)
+    (are : AreKept t v judged.lines kept) (all : List ℕ) (asked : AreAsked v v.rounds all)
     (long : length all ≡ length (words_of t)) where
-  finals_moved : Same (finals_in judged.lines) (finals_in are.0)
-  finals_moved = same_filter_map as_final judged.lines are.0 (same_moved judged.lines are.0 are.1)
-
   abbrev own : Turn → Bool
   own turn = final_holds (run_in t v) judged.lines turn
 
@@ -86,27 +81,23 @@ module _ (t : Tables) (v : TraceAsks) (judged : Judged) (kept : CreditLines) (la
   told = kept.finals.told.items
 
   -- a cluster has its own where just one line names it, and tells what is left
-  final_right : (turn : Turn) → IsCreditedTurn t v are.0 kept turn →
+  final_right : (turn : Turn) → IsCreditedTurn t v judged.lines kept turn →
       own turn ≡ is_right v.rounds t.round_ticks all kept.requests (get_or told turn.number Nothing) turn
   final_right turn is =
-      let finals : List FinalState = finals_in are.0 in
+      let finals : List FinalState = finals_in judged.lines in
       let right : FinalState = final_of (run_in t v) judged.lines turn in
       let flow : FlowTable = turn.cluster.flow in
       let account : Account = account_at kept.requests.ledger.accounts.items turn.number in
       let left : slice_index all turn.number - account.credited ≡ right.outstanding =
       ap (λ n. n - account.credited) (asked.asked turn.number (omega (arith, long, is.0.number)))
-      ∙ left_is t v judged.lines (requested_in are.0) turn account is.0.number
-      (requests_moved judged.lines are.0 (same_moved judged.lines are.0 are.1)) is.1 trace in
+      ∙ left_is t v judged.lines turn account is.0.number is.1 trace in
       let bucket = (flow_account t v judged.lines kept turn.place flow lawful is.0.flow is.0.requests are).left in
-      ap₂ (λ n b. (n == 1) && b)
-      (same_count (is_final_of turn) (finals_in judged.lines) finals finals_moved)
-      (same_any (is_same_final right) (finals_in judged.lines) finals finals_moved)
-      ∙ once_told (tells right.outstanding right.units) (is_same_final right) (is_final_of turn)
+      once_told (tells right.outstanding right.units) (is_same_final right) (is_final_of turn)
       (λ f. same_parts right f turn refl refl) finals
       ∙ ap (λ own. is_once (tells right.outstanding right.units) (told_by own))
       (filter_agree (is_final_of turn) (λ (f : FinalState). is_number turn.number (word_of f.flow f.cluster (table_order t)))
       (λ f. named_word t turn f.flow f.cluster lawful is.0) finals)
-      ∙ ap (is_once (tells right.outstanding right.units)) (sym (are.2.finals.told turn.number is.0.number))
+      ∙ ap (is_once (tells right.outstanding right.units)) (sym (are.finals.told turn.number is.0.number))
       ∙ ap₂ (λ n u. is_once (tells n u) (get_or told turn.number Nothing)) (sym left) (sym bucket)
 
   -- so this is the first place, of these and of lines that name no cluster
@@ -115,6 +106,7 @@ module _ (t : Tables) (v : TraceAsks) (judged : Judged) (kept : CreditLines) (la
       (first_of t.channels (final_place v.rounds t.round_ticks all kept.requests told) kept.seats))
   finals_first =
       let turns : List Turn = table_order t in
+      let finals : List FinalState = finals_in judged.lines in
       let place : Turn → Option Place = final_place v.rounds t.round_ticks all kept.requests told in
       let known : FinalState → Bool = λ f. list_any (λ turn. is_final_of turn f) turns in
       let named : (f : FinalState) → known f ≡ is_some (word_of f.flow f.cluster turns) =
@@ -123,24 +115,18 @@ module _ (t : Tables) (v : TraceAsks) (judged : Judged) (kept : CreditLines) (la
       λ f. At (end_place v.rounds f.flow) (is_some (word_of f.flow f.cluster turns)) in
       let Unknown : FinalState → Place → Type 0 = EndFails (λ (f : FinalState). f.flow) known v.rounds in
       let Wrong : Turn → Place → Type 0 = EndFails (λ (turn : Turn). turn.cluster.flow.id) own v.rounds in
-      ends_first (λ (f : FinalState). f.flow) known (λ (turn : Turn). turn.cluster.flow.id) own v.rounds (finals_in are.0) turns
-      (finals_hold (run_in t v) judged)
-      (λ p. ap (λ b. if (p.round == v.rounds) && (p.channel == 0) then b
-      && list_all (λ turn. if turn.cluster.flow.id == p.third then own turn else true) turns
-      else true)
-      (sym (same_all (λ (f : FinalState). if f.flow == p.third then known f else true) (finals_in judged.lines) (finals_in are.0)
-      finals_moved)))
-      t.channels kept.finals.strange (first_of t.channels place kept.seats)
-      (same_places t.channels (Any Strange (finals_in are.0)) (Any Unknown (finals_in are.0)) kept.finals.strange
-      (λ p fails. any_each Strange Unknown (finals_in are.0) p (λ f out. (out.0, named f ∙ out.1)) fails)
-      (λ p fails. any_each Unknown Strange (finals_in are.0) p (λ f out. (out.0, sym (named f) ∙ out.1)) fails)
-      are.2.finals.strange)
-      (subst (λ seats. IsFirstFailure t.channels (Any Wrong turns) (first_of t.channels place seats)) (sym are.2.seats)
+      ends_first (λ (f : FinalState). f.flow) known (λ (turn : Turn). turn.cluster.flow.id) own v.rounds finals turns
+      (finals_hold (run_in t v) judged) (λ p. refl) t.channels kept.finals.strange (first_of t.channels place kept.seats)
+      (same_places t.channels (Any Strange finals) (Any Unknown finals) kept.finals.strange
+      (λ p fails. any_each Strange Unknown finals p (λ f out. (out.0, named f ∙ out.1)) fails)
+      (λ p fails. any_each Unknown Strange finals p (λ f out. (out.0, sym (named f) ∙ out.1)) fails)
+      are.finals.strange)
+      (subst (λ seats. IsFirstFailure t.channels (Any Wrong turns) (first_of t.channels place seats)) (sym are.seats)
       (first_among t.channels Wrong place turns
-      (all_weaker (IsCreditedTurn t v are.0 kept) (λ turn. IsFirstFailure t.channels (Wrong turn) (place turn))
+      (all_weaker (IsCreditedTurn t v judged.lines kept) (λ turn. IsFirstFailure t.channels (Wrong turn) (place turn))
       (λ turn is. subst (λ right. IsFirstFailure t.channels (Wrong turn) (unless right (end_place v.rounds turn.cluster.flow.id)))
       (final_right turn is) (at_test t.channels (end_place v.rounds turn.cluster.flow.id) (own turn)))
-      turns (credited_turns t v are.0 kept are.2))))
+      turns (credited_turns t v judged.lines kept are))))
 
 -- A lines.
 
@@ -155,13 +141,10 @@ code_inside [] code is = absurd (false≢true is)
 code_inside (place ∷ places) zero is = omega arith
 code_inside (place ∷ places) (suc code) is = omega (arith, code_inside places code is)
 
-module _ (t : Tables) (v : TraceAsks) (judged : Judged) (kept : CreditLines) (are : AreCreditLines t v judged.lines kept)
+module _ (t : Tables) (v : TraceAsks) (judged : Judged) (kept : CreditLines) (are : AreKept t v judged.lines kept)
     (marks : Marks) (marked : AreMarksOf t v marks) where
   abbrev lines : List FinalActivity
-  lines = activities_in are.0
-
-  moved : Same (activities_in judged.lines) lines
-  moved = same_filter_map as_activity judged.lines are.0 (same_moved judged.lines are.0 are.1)
+  lines = activities_in judged.lines
 
   abbrev talks : ℕ → Bool
   talks id = list_any (λ f. f.flow.id == id) (talking t)
@@ -188,17 +171,14 @@ module _ (t : Tables) (v : TraceAsks) (judged : Judged) (kept : CreditLines) (ar
       let id : ℕ = f.flow.id in
       let wanted : FinalActivity = activity_of (run_in t v) f in
       let inside : id < length kept.talkers.ids.items =
-      code_inside kept.talkers.ids.items id (are.2.talkers.ids id ∙ talker) in
+      code_inside kept.talkers.ids.items id (are.talkers.ids id ∙ talker) in
       ap (λ these. is_once (is_same_activity these) (get_or kept.talkers.told.told.items id Nothing)) line
-      ∙ ap (is_once (is_same_activity wanted)) (are.2.talkers.told.told id inside)
+      ∙ ap (is_once (is_same_activity wanted)) (are.talkers.told.told id inside)
       ∙ ap (λ these. is_once (is_same_activity wanted) (told_by these))
       (sym (filter_agree (λ (a : FinalActivity). a.flow == id) (λ a. is_number id (talker_at t a.flow)) named lines))
       ∙ sym (once_told (is_same_activity wanted) (is_same_activity wanted) (λ (a : FinalActivity). a.flow == id)
       (λ a. ap (λ b. b && (wanted.active == a.active)) (turned id a.flow) ∙ twice (a.flow == id) (wanted.active == a.active)
       ∙ ap (λ b. (a.flow == id) && (b && (wanted.active == a.active))) (turned a.flow id)) lines)
-      ∙ ap₂ (λ n b. (n == 1) && b)
-      (sym (same_count (λ (a : FinalActivity). a.flow == id) (activities_in judged.lines) lines moved))
-      (sym (same_any (is_same_activity wanted) (activities_in judged.lines) lines moved))
     where
       twice : (a b : Bool) → (a && b) ≡ (a && (a && b))
       twice true b = refl
@@ -240,30 +220,25 @@ module _ (t : Tables) (v : TraceAsks) (judged : Judged) (kept : CreditLines) (ar
       let place : Talker → Option Place = talker_place marks v.rounds kept.talkers.told.told.items in
       let Wrong : Talker → Place → Type 0 = EndFails (λ (talker : Talker). talker.id) once v.rounds in
       let strange : (id : ℕ) → list_all (λ a. if a.flow == id then is_some (talker_at t a.flow) else true) lines
-      ≡ list_all (λ a. if a.flow == id then talks id else true) (activities_in judged.lines) =
+      ≡ list_all (λ a. if a.flow == id then talks id else true) lines =
       (λ id. all_agree (λ (a : FinalActivity). if a.flow == id then is_some (talker_at t a.flow) else true)
       (λ a. if a.flow == id then talks id else true) lines
       (of_each (λ (a : FinalActivity). (if a.flow == id then is_some (talker_at t a.flow) else true) ≡ (if a.flow == id then talks id else true))
-      lines (λ a. known a id))
-      ∙ sym (same_all (λ (a : FinalActivity). if a.flow == id then talks id else true) (activities_in judged.lines) lines moved)) in
+      lines (λ a. known a id))) in
       ends_first (λ (a : FinalActivity). a.flow) (λ a. is_some (talker_at t a.flow)) (λ (talker : Talker). talker.id) once
       v.rounds lines all (activities_hold (run_in t v) judged)
       (λ p. ap (λ b. if (p.round == v.rounds) && (p.channel == 0) then b else true)
       (ap₂ (λ a b. a && b) (strange p.third) (own_there p.third)))
-      t.channels kept.talkers.told.strange (first_of t.channels place kept.talkers.all.items) are.2.talkers.told.strange
-      (subst (λ talkers. IsFirstFailure t.channels (Any Wrong all) (first_of t.channels place talkers)) (sym are.2.talkers.all)
+      t.channels kept.talkers.told.strange (first_of t.channels place kept.talkers.all.items) are.talkers.told.strange
+      (subst (λ talkers. IsFirstFailure t.channels (Any Wrong all) (first_of t.channels place talkers)) (sym are.talkers.all)
       (first_among t.channels Wrong place all
       (of_each (λ talker. IsFirstFailure t.channels (Wrong talker) (place talker)) all
       (λ talker. at_test t.channels (end_place v.rounds talker.id) (once talker)))))
 
 -- U lines.
 
-ones : {X : Type 0} (xs : List X) → sum_by (λ x. 1) xs ≡ length xs
-ones [] = refl
-ones (x ∷ xs) = omega (arith, sum_by-cons (λ y. 1) x xs, ones xs)
-
 pub counts_first : (channels : List Channel) (t : Tables) (v : TraceAsks) (judged : Judged) (kept : CreditLines)
-    (right : Bool) → AreCreditLines t v judged.lines kept →
+    (right : Bool) → AreKept t v judged.lines kept →
     right ≡ is_once (is_same_counts (counts_told v.counts)) kept.counts →
     IsFirstBreach channels (λ p. counts_hold (run_in t v) judged p ≡ true) (unless right (end_place v.rounds 0))
 counts_first channels t v judged kept right are is =
@@ -277,13 +252,8 @@ counts_first channels t v judged kept right are is =
     test : TraceCounts → Bool
     test = is_same_counts (counts_told v.counts)
 
-    moved : Same (counts_in judged.lines) (counts_in are.0)
-    moved = same_filter_map as_counts judged.lines are.0 (same_moved judged.lines are.0 are.1)
-
     all : right ≡ ((length (counts_in judged.lines) == 1) && list_any test (counts_in judged.lines))
-    all =
-        is ∙ ap (is_once test) are.2.counts ∙ sym (one_told test (counts_in are.0))
-        ∙ ap₂ (λ n b. (n == 1) && b) (sym (ones (counts_in are.0)) ∙ sym (moved (λ line. 1)) ∙ ones (counts_in judged.lines)) (sym (same_any test (counts_in judged.lines) (counts_in are.0) moved))
+    all = is ∙ ap (is_once test) are.counts ∙ sym (one_told test (counts_in judged.lines))
 
     there : (p : Place) → At at right p → counts_hold (run_in t v) judged p ≡ false
     there p fails =

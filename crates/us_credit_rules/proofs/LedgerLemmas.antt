@@ -16,9 +16,9 @@ use Rattle.us_output.specs.declared.rows.Grant.{Grant}
 use Rattle.us_output.specs.declared.rows.Row.{Row}
 use Rattle.us_output.proofs.PartLemmas.{all_both, all_weaker}
 use Rattle.us_lawful.specs.Runs.{requested_in, run_in}
-use Rattle.us_lawful.specs.Credits.{asked_within, credited_within, is_of, sum_holds}
+use Rattle.us_lawful.specs.Credits.{asked_within, credited_in, credited_within, is_of, sum_holds}
 use Rattle.us_lawful.proofs.ItemLemmas.{filter_same, sum_most, sum_zero}
-use Rattle.us_lawful.proofs.SameLemmas.{Same, same_filter, sum_append, sum_filter, sum_map}
+use Rattle.us_lawful.proofs.SameLemmas.{sum_append, sum_filter, sum_map}
 use Rattle.us_lawful.proofs.SumLemmas.{sum_both}
 use Rattle.us_credit_rules.specs.declared.ledgers.Account.{Account}
 use Rattle.us_credit_rules.specs.Shorts.{IsFirstRound, short_then}
@@ -464,28 +464,21 @@ module _ (v : TraceAsks) (turns : List Turn) (g : Grant) (before after : Ledger)
 
 -- Behind all lines.
 
-module _ (t : Tables) (v : TraceAsks) (lines : List Row) (grants : List Grant) (turn : Turn) (a : Account)
-    (known : turn.number < length (words_of t)) (moved : Same (requested_in lines) grants)
-    (is : IsCredited v grants turn a) where
-  moved_sum : (test : Grant → Bool) →
-      sum_by (λ g. g.credit) (filter test (requested_in lines)) ≡ sum_by (λ g. g.credit) (filter test grants)
-  moved_sum test = same_filter test (requested_in lines) grants moved (λ (g : Grant). g.credit)
-
+module _ (t : Tables) (v : TraceAsks) (lines : List Row) (turn : Turn) (a : Account)
+    (known : turn.number < length (words_of t)) (is : IsCredited v (requested_in lines) turn a) where
   -- what is left of all that is asked
   pub left_is : IsTrace v →
       asked_in v v.rounds turn.number - a.credited
       ≡ asked_within (run_in t v) v.rounds turn.number - credited_within lines v.rounds turn.cluster
   left_is trace =
       is.left (asked_in v v.rounds turn.number) (omega (arith, asked_few v v.rounds turn.number trace))
-      ∙ ap₂ (λ all credit. all - credit) (sym (asked_is t v v.rounds turn.number known (omega arith)))
-      (sym (moved_sum (λ g. is_of turn.cluster g && nat_lt g.round v.rounds)))
+      ∙ ap (λ all. all - credited_within lines v.rounds turn.cluster)
+      (sym (asked_is t v v.rounds turn.number known (omega arith)))
 
   -- and the first round that is credited more
   pub short_is : IsFirstRound v.rounds (λ round. sum_holds (run_in t v) lines round turn) a.short
   short_is =
-      same_first v.rounds (holds v grants turn) (λ round. sum_holds (run_in t v) lines round turn) a.short
+      same_first v.rounds (holds v (requested_in lines) turn) (λ round. sum_holds (run_in t v) lines round turn) a.short
       (λ round within.
-      ap₂ (λ credit left. nat_le credit left)
-      (sym (moved_sum (λ g. is_of turn.cluster g && (g.round == round))))
-      (ap₂ (λ asked before. asked - before) (sym (asked_is t v (round + 1) turn.number known (omega (arith, within))))
-      (sym (moved_sum (λ g. is_of turn.cluster g && nat_lt g.round round))))) is.short
+      ap (λ asked. nat_le (credited_in lines round turn.cluster) (asked - credited_within lines round turn.cluster))
+      (sym (asked_is t v (round + 1) turn.number known (omega (arith, within))))) is.short

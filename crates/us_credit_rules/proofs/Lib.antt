@@ -12,7 +12,8 @@ pub mod WalkLemmas
 pub mod BoundLemmas
 -- accounts of flows
 pub mod FlowLemmas
--- lines of requests
+-- lines of requests, and their channels
+pub mod ChannelLemmas
 pub mod RepeatLemmas
 -- lines behind the last round
 pub mod EndLemmas

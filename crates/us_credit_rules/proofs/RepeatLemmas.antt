@@ -23,7 +23,7 @@ use Rattle.us_lawful.specs.Runs.{requested_in, run_in}
 use Rattle.us_lawful.specs.Credits.{has_cost, is_like, is_right_credit, is_credit_at, credit_lines_hold}
 use Rattle.us_lawful.proofs.ItemLemmas.{IsFound, any_placed, find_some}
 use Rattle.us_lawful.proofs.CreditLineLaws.{counted_there, turn_listed}
-use Rattle.us_lawful.proofs.SameLemmas.{Same, same_all, same_count, sum_append}
+use Rattle.us_lawful.proofs.SameLemmas.{sum_append}
 use Rattle.us_reports.specs.Breaches.{At, Either, IsFirstFailure}
 use Rattle.us_reports.specs.Order.{earlier}
 use Rattle.us_reports.proofs.BreachLemmas.{any_append, append_any, at_test, at_there, joined, same_places}
@@ -442,19 +442,20 @@ wrong_more t lines latest last g first lawful are later wrong =
         ap (λ b. not b && is_right_line t.channels (table_order t) g)
         (ap (λ found. is_told last found g.round) some ∙ are.told g key later some)
 
--- Behind all lines, in whatever order they are.
+-- Behind all lines.
 
-right_credit : (t : Tables) (v : TraceAsks) (lines : List Row) (grants : List Grant) (g : Grant) → AreTables t →
-    Same (requested_in lines) grants →
+right_credit : (t : Tables) (v : TraceAsks) (lines : List Row) (g : Grant) → AreTables t →
     is_right_credit (run_in t v) lines g
-    ≡ (is_right_line t.channels (table_order t) g && (count_by (is_like g) grants == 1))
-right_credit t v lines grants g lawful moved = of (find (names g.id g.i) (table_order t)) refl
+    ≡ (is_right_line t.channels (table_order t) g && (count_by (is_like g) (requested_in lines) == 1))
+right_credit t v lines g lawful = of (find (names g.id g.i) (table_order t)) refl
   where
+    alone : Bool
+    alone = count_by (is_like g) (requested_in lines) == 1
+
     rest : Turn → Bool
     rest turn =
         (g.k == 0) && (has_sid g.channel g.sid turn.cluster && (nat_lt 0 g.credit
-        && (has_cost turn.cluster g (channel_with t.channels g.channel)
-        && (count_by (is_like g) (requested_in lines) == 1))))
+        && (has_cost turn.cluster g (channel_with t.channels g.channel) && alone)))
 
     grouped : (a b c d e : Bool) → (a && (b && (c && (d && e)))) ≡ ((a && (b && (c && d))) && e)
     grouped true true true d e = refl
@@ -464,33 +465,29 @@ right_credit t v lines grants g lawful moved = of (find (names g.id g.i) (table_
 
     of : (found : Option Turn) → find (names g.id g.i) (table_order t) ≡ found →
         list_any (λ turn. names g.id g.i turn && rest turn) (table_order t)
-        ≡ (is_right_for t.channels g found && (count_by (is_like g) grants == 1))
+        ≡ (is_right_for t.channels g found && alone)
     of None is = named_once t g.id g.i rest lawful None is
     of (Some u) is =
         named_once t g.id g.i rest lawful (Some u) is
         ∙ grouped (g.k == 0) (has_sid g.channel g.sid u.cluster) (nat_lt 0 g.credit)
-        (has_cost u.cluster g (channel_with t.channels g.channel)) (count_by (is_like g) (requested_in lines) == 1)
-        ∙ ap (λ n. is_right_for t.channels g (Some u) && (n == 1))
-        (same_count (is_like g) (requested_in lines) grants moved)
+        (has_cost u.cluster g (channel_with t.channels g.channel)) alone
 
 -- the first wrong line is the first that fails
-pub lines_first : (t : Tables) (v : TraceAsks) (lines : List Row) (grants : List Grant) (answer : Option Place) →
-    AreTables t → Same (requested_in lines) grants →
-    IsFirstFailure t.channels (AreWrong t.channels (table_order t) grants) answer →
+pub lines_first : (t : Tables) (v : TraceAsks) (lines : List Row) (answer : Option Place) → AreTables t →
+    IsFirstFailure t.channels (AreWrong t.channels (table_order t) (requested_in lines)) answer →
     IsFirstFailure t.channels (λ p. credit_lines_hold (run_in t v) (record { maps = []; lines = lines }) p ≡ false) answer
-lines_first t v lines grants answer lawful moved first =
+lines_first t v lines answer lawful first =
+    let grants : List Grant = requested_in lines in
     let right : Grant → Bool = is_right_credit (run_in t v) lines in
     let test : Grant → Place → Bool = λ g p. not (is_credit_at p g) || right g in
     let same : (g : Grant) → right g ≡ (is_right_line t.channels (table_order t) g && (count_by (is_like g) grants == 1)) =
-    (λ g. right_credit t v lines grants g lawful moved) in
-    let all : (p : Place) → list_all (λ g. test g p) (requested_in lines) ≡ list_all (λ g. test g p) grants =
-    (λ p. same_all (λ g. test g p) (requested_in lines) grants moved) in
+    (λ g. right_credit t v lines g lawful) in
     same_places t.channels (AreWrong t.channels (table_order t) grants)
-    (λ p. list_all (λ g. test g p) (requested_in lines) ≡ false) answer
-    (λ p wrong. all p ∙ (any_of_all test grants p).1
+    (λ p. list_all (λ g. test g p) grants ≡ false) answer
+    (λ p wrong. (any_of_all test grants p).1
     (any_each (IsWrong t.channels (table_order t) grants) (λ g q. test g q ≡ false) grants p
     (λ g fails. (at_there (line_place g) p (right g)).1 (fails.0, same g ∙ fails.1)) wrong))
     (λ p fails. any_each (λ g q. test g q ≡ false) (IsWrong t.channels (table_order t) grants) grants p
     (λ g out. let there = (at_there (line_place g) p (right g)).0 out in (there.0, sym (same g) ∙ there.1))
-    ((any_of_all test grants p).0 (sym (all p) ∙ fails)))
+    ((any_of_all test grants p).0 fails))
     first

@@ -12,21 +12,20 @@ use Rattle.us_flows.specs.Lawful.{AreTables, HasNoOthers, IsFlow}
 use Rattle.us_requests.specs.Traces.{TraceAsks}
 use Rattle.us_output.proofs.PartLemmas.{all_found, all_weaker}
 use Rattle.us_reports.specs.declared.place.Place.{Place}
-use Rattle.us_lawful.specs.Runs.{Run, Judged, requested_in, run_in}
+use Rattle.us_lawful.specs.Runs.{Run, Judged, run_in}
 use Rattle.us_lawful.specs.Rates.{flow_credits, flow_rate_holds, rates_hold, span_holds}
 use Rattle.us_reports.specs.Breaches.{IsFirstFailure, IsFirstBreach, Any}
 use Rattle.us_reports.proofs.BreachLemmas.{holds_first}
 use Rattle.us_credit_rules.specs.declared.credit_lines.CreditLines.{CreditLines}
 use Rattle.us_credit_rules.specs.Buckets.{account_of, rate_place}
-use Rattle.us_credit_rules.specs.CreditLines.{AreCreditLines}
+use Rattle.us_credit_rules.specs.CreditLines.{AreKept}
 use Rattle.us_credit_rules.specs.Shorts.{flow_place}
 use Rattle.us_credit_rules.proofs.PlaceLemmas.{all_tested, flow_first, flow_test}
 use Rattle.us_credit_rules.proofs.EndLemmas.{first_among}
-use Rattle.us_credit_rules.proofs.KeptLemmas.{IsCreditedTurn, credited_turns, flow_account, requests_moved}
+use Rattle.us_credit_rules.proofs.KeptLemmas.{IsCreditedTurn, credited_turns, flow_account}
 use Rattle.us_credit_rules.proofs.LedgerLemmas.{short_is}
 use Rattle.us_credit_rules.specs.Ends.{first_of}
 use Rattle.us_credit_rules.specs.declared.ledgers.Account.{Account}
-use Rattle.us_lawful.proofs.SameLemmas.{same_moved}
 use Rattle.us_lawful.specs.Credits.{sum_holds, sums_hold}
 use Rattle.us_credit_rules.specs.Ledgers.{account_at, sum_place}
 
@@ -46,7 +45,7 @@ rate_asks flow UnsolicitedGrant limited others = absurd (omega (arith, limited, 
 
 -- its first breach
 pub rate_first : (channels : List Channel) (t : Tables) (v : TraceAsks) (judged : Judged) (kept : CreditLines) (i : ℕ)
-    (flow : FlowTable) → AreTables t → slice_get t.flows i ≡ Some flow → AreCreditLines t v judged.lines kept →
+    (flow : FlowTable) → AreTables t → slice_get t.flows i ≡ Some flow → AreKept t v judged.lines kept →
     IsFirstFailure channels (λ p. rate_test (run_in t v) judged flow p ≡ false)
     (rate_place flow (account_of kept.requests.flows.items i))
 rate_first channels t v judged kept i flow lawful at are = elim (cases_Bool (flow.rate == 0)) [
@@ -90,7 +89,7 @@ sum_test run judged turn p =
     flow_test run.rounds turn.cluster.flow.id (λ round. sum_holds run judged.lines round turn) p
 
 -- and the first breach of all clusters
-pub sums_first : (t : Tables) (v : TraceAsks) (judged : Judged) (kept : CreditLines) → AreCreditLines t v judged.lines kept →
+pub sums_first : (t : Tables) (v : TraceAsks) (judged : Judged) (kept : CreditLines) → AreKept t v judged.lines kept →
     IsFirstFailure t.channels (λ p. sums_hold (run_in t v) judged p ≡ false)
     (first_of t.channels (sum_place kept.requests.ledger.accounts.items) kept.seats)
 sums_first t v judged kept are =
@@ -101,10 +100,10 @@ sums_first t v judged kept are =
     all_tested (λ p. not ((p.channel == 0) && nat_lt p.round run.rounds))
     (λ turn p. not (turn.cluster.flow.id == p.third) || sum_holds run judged.lines p.round turn) t.channels turns
     (first_of t.channels (sum_place accounts) kept.seats)
-    (subst (λ seats. IsFirstFailure t.channels (Any Fails turns) (first_of t.channels (sum_place accounts) seats)) (sym are.2.seats)
+    (subst (λ seats. IsFirstFailure t.channels (Any Fails turns) (first_of t.channels (sum_place accounts) seats)) (sym are.seats)
     (first_among t.channels Fails (sum_place accounts) turns
-    (all_weaker (IsCreditedTurn t v are.0 kept) (λ turn. IsFirstFailure t.channels (Fails turn) (sum_place accounts turn))
+    (all_weaker (IsCreditedTurn t v judged.lines kept) (λ turn. IsFirstFailure t.channels (Fails turn) (sum_place accounts turn))
     (λ turn is. flow_first t.channels v.rounds turn.cluster.flow.id (λ round. sum_holds run judged.lines round turn)
     (account_at accounts turn.number).short
-    (short_is t v judged.lines (requested_in are.0) turn (account_at accounts turn.number) is.0.number
-    (requests_moved judged.lines are.0 (same_moved judged.lines are.0 are.1)) is.1)) turns (credited_turns t v are.0 kept are.2))))
+    (short_is t v judged.lines turn (account_at accounts turn.number) is.0.number is.1)) turns
+    (credited_turns t v judged.lines kept are))))

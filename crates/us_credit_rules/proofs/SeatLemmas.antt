@@ -4,7 +4,7 @@ use Rattle.std.proofs.Common.{◌≡◌, ℕ, zero, suc, ◌+◌, ◌*◌, ◌<�
 use Rattle.std.specs.Prelude.{if◌then◌else◌, find, flat_map, nat_lt, option_and_then, slice_get, IfSome}
 use Rattle.std.specs.List.{AllByRecursion, list_any}
 use Rattle.std.specs.Option.{is_some, option_copied}
-use Rattle.std.proofs.lemmas.Bool.{cases_Bool, cases_eq, and_from, and_left, and_right, eqb-true, false_from_ne_true, and_parts}
+use Rattle.std.proofs.lemmas.Bool.{cases_Bool, cases_eq, and_from, and_left, and_right, eqb-true, false_from_ne_true, and_parts, false≢true}
 use Rattle.std.proofs.lemmas.List.{drop-map, drop_more, length-append}
 use Rattle.us_flows.specs.Tables.{Tables, FlowTable}
 use Rattle.us_flows.specs.Lawful.{AreTables, IsFlow}
@@ -111,6 +111,10 @@ found_all P p (x ∷ xs) all = elim (cases_Bool (p x)) [
 pub word_is : (P : ℕ → Type 0) (found : Option Turn) → IfSome found (λ turn. P turn.number) → IfSome (word_in found) P
 word_is P None all = tt
 word_is P (Some turn) all = all
+
+pub place_is : (P : ℕ → Type 0) (found : Option Turn) → IfSome found (λ turn. P turn.place) → IfSome (flow_in found) P
+place_is P None all = tt
+place_is P (Some turn) all = all
 
 pub seat_is : (P : Turn → Type 0) (seat : Option (Bor Turn)) (found : Option Turn) → option_copied seat ≡ found →
     IfSome found P → IfSome seat (λ seat. P seat.now)
@@ -371,3 +375,16 @@ flow_named t i flow id lawful at asks = of (find (names id 0) (table_order t)) r
               ∙ sym (ne_eqb id flow.id (λ same. apart (place_of_id t.flows turn.place i turn.cluster.flow flow
               lawful.flows_apart there.0.flow at (sym named ∙ same))))
         ]
+
+number_is : (n : ℕ) (found : Option ℕ) → is_number n found ≡ true → Some n ≡ found
+number_is n None is = absurd (false≢true is)
+number_is n (Some k) is = ap Some (sym (eqb-true k n is))
+
+-- a cluster that is found by the flow's id stands at the flow's place
+pub same_flow : (t : Tables) (id list : ℕ) (turn : Turn) → AreTables t → find (names id list) (table_order t) ≡ Some turn →
+    Some turn.place ≡ flow_in (find (names id 0) (table_order t))
+same_flow t id list turn lawful is =
+    let there = found_passes (names id list) (IsTurnIn t) (table_order t) turn is (table_order-turns t) in
+    let named = (and_parts (id == turn.cluster.flow.id) (list == turn.cluster.list) there.1).0 in
+    number_is turn.place (flow_in (find (names id 0) (table_order t)))
+    (flow_named t turn.place turn.cluster.flow id lawful there.0.flow there.0.requests ∙ named)

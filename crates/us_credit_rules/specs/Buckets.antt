@@ -17,9 +17,9 @@ is_within bytes (Some most) = nat_le bytes most
 abbrev pub has : Level → ℕ → Bool
 has l bytes = is_within bytes (bytes_in l)
 
--- a bucket in which `l` was left in round `at`, when a later round starts
+-- a bucket in which `l` was left in round `at`, in that round or when a later one starts
 abbrev pub level_in : ℕ → ℕ → Level → ℕ → Level
-level_in ticks at l round = refilled ((round - at) * ticks) l
+level_in ticks at l round = if at == round then l else refilled ((round - at) * ticks) l
 
 -- Accounts of flows.
 

@@ -1,6 +1,5 @@
 -- What is kept of the lines of a report.
 use Rattle.std.specs.Prelude.{◌≡◌, ℕ, ◌||◌, nat_le, not, Bool, true, if◌then◌else◌, List, length}
-use Rattle.std.specs.List.Sorted.{IsPermutation}
 use Rattle.us_flows.specs.Tables.{Tables}
 use Rattle.us_flows.specs.Clusters.{table_order, words_of}
 use Rattle.us_requests.specs.Traces.{TraceAsks}
@@ -33,7 +32,3 @@ pub record AreKept (t : Tables) (v : TraceAsks) (lines : List Row) (kept : Credi
       (λ f. word_of f.flow f.cluster (table_order t)) (finals_in lines) kept.finals
   pub talkers : AreTalkers t v (activities_in lines) kept.talkers
   pub counts : kept.counts ≡ told_by (counts_in lines)
-
--- of lines in whatever order they stand
-abbrev pub AreCreditLines : Tables → TraceAsks → List Row → CreditLines → Type 0
-AreCreditLines t v lines kept = (told : List Row) × IsPermutation lines told × AreKept t v told kept

@@ -21,12 +21,18 @@ key_for (Some word) channel = if nat_lt channel 256 then Some (word * 256 + chan
 abbrev pub key_of : List Turn → Grant → Option ℕ
 key_of turns g = key_for (word_of g.id g.i turns) g.channel
 
--- a line is right for the cluster that it names, whatever other lines there are
+-- a line has the minislots and the IUC that a grant costs
+abbrev pub is_cost : ℕ × ℕ → Grant → Bool
+is_cost cost g = (g.slots == cost.0) && (g.iuc == cost.1)
+
+-- a line is right for its channel and the cluster that it names, whatever other lines there are
+abbrev pub is_right_on : Option Channel → Grant → Option Turn → Bool
+is_right_on channel g None = false
+is_right_on channel g (Some turn) =
+    (g.k == 0) && (has_sid g.channel g.sid turn.cluster && (nat_lt 0 g.credit && has_cost turn.cluster g channel))
+
 abbrev pub is_right_for : List Channel → Grant → Option Turn → Bool
-is_right_for channels g None = false
-is_right_for channels g (Some turn) =
-    (g.k == 0) && (has_sid g.channel g.sid turn.cluster && (nat_lt 0 g.credit
-    && has_cost turn.cluster g (channel_with channels g.channel)))
+is_right_for channels g found = is_right_on (channel_with channels g.channel) g found
 
 abbrev pub is_right_line : List Channel → List Turn → Grant → Bool
 is_right_line channels turns g = is_right_for channels g (find (names g.id g.i) turns)

@@ -3,7 +3,7 @@ ghost use Rattle.us_lawful.specs.Runs.{Judged, run_in};
 ghost use Rattle.us_lawful.specs.Finals.{activities_hold, is_same_activity};
 ghost use Rattle.us_reports.specs.Breaches.{IsFirstBreach};
 ghost use Rattle.us_credit_rules.specs.Activities as spec;
-ghost use Rattle.us_credit_rules.specs.CreditLines.{AreCreditLines};
+ghost use Rattle.us_credit_rules.specs.CreditLines.{AreKept};
 ghost use Rattle.us_credit_rules.specs.Ends.{first_of};
 ghost use Rattle.us_credit_rules.specs.Tellings.{is_once};
 
@@ -28,7 +28,7 @@ pub fn activities_breach(
     trace: &Trace,
     lines: &CreditLines,
 ) -> Result<Option<Place>, NoMemory>
-    ensures { IfOk result (λ first. (judged : Judged) → AreCreditLines config.now trace.now judged.lines lines.now →
+    ensures { IfOk result (λ first. (judged : Judged) → AreKept config.now trace.now judged.lines lines.now →
         IsFirstBreach config.now.channels (λ p. activities_hold (run_in config.now trace.now) judged p ≡ true) first) }
 {
     let activities = Activities::of(alloc, config, trace)?;

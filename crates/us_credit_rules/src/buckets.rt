@@ -1,9 +1,6 @@
 ghost use Rattle.std.specs.Prelude.{◌≡◌, ◌≤◌, ◌<◌, ◌-◌, ◌*◌, length, map, nat_lt, if◌then◌else◌, IfOk, IfSome};
-ghost use Rattle.std.specs.Option.{option_copied};
 ghost use Rattle.us_credit_rules.specs.Buckets as spec;
-ghost use Rattle.us_credit_rules.specs.Seats.{flow_in};
 
-use crate::seats::Seat;
 use std::alloc::{AllocError, Global};
 use us_bucket::Bucket;
 use us_flows::Flow;
@@ -56,16 +53,14 @@ impl FlowAccount {
     {
         self.bucket = self.level_in(time, round);
         self.as_of = round;
-        let had = has(&self.bucket, bytes);
-        self.short = match self.short {
-            None if !had => Some(round),
-            short => short,
-        };
-        if !had {
-            self.bucket = self.empty;
+        if has(&self.bucket, bytes) {
+            self.bucket.spend(bytes);
             return;
         }
-        self.bucket.spend(bytes);
+        self.bucket = self.empty;
+        if self.short.is_none() {
+            self.short = Some(round);
+        }
     }
 
     /// The round of the first credit whose bytes the bucket lacked.
@@ -82,12 +77,15 @@ impl FlowAccount {
         self.level_in(time, time.rounds - 1).units()
     }
 
-    /// The bucket in a later round.
+    /// The bucket in the round as of which it stands, or in a later one.
     fn level_in(&self, time: RunTime, round: u32) -> Bucket
         requires { round < time.rounds }
         ensures { result ≡ spec.level_in time.round_ticks self.now.as_of self.now.bucket round }
     {
         let mut bucket = self.bucket;
+        if self.as_of == round {
+            return bucket;
+        }
         bucket.refill(round.saturating_sub(self.as_of) * time.round_ticks);
         bucket
     }
@@ -114,22 +112,22 @@ pub(crate) fn full_flows(alloc: Global, flows: &[Flow]) -> Result<Vec<FlowAccoun
     Ok(accounts)
 }
 
-/// A line more, which is of no earlier round than those before. It credits the flow of this cluster.
+/// A line more, which is of no earlier round than those before. It credits the flow at this place.
 pub(crate) fn take_credit(
     flows: &mut [FlowAccount],
     time: RunTime,
-    seat: Option<&Seat>,
+    place: Option<usize>,
     grant: &Grant,
 )
-    requires { IfSome seat (λ seat. seat.now.place < length flows.old) }
+    requires { IfSome place (λ place. place < length flows.old) }
     ensures { flows.new ≡ (if nat_lt grant.now.round time.rounds
-        then spec.credited_at time.round_ticks grant.now (flow_in (option_copied seat.entry)) flows.old else flows.old) }
+        then spec.credited_at time.round_ticks grant.now place flows.old else flows.old) }
 {
     if grant.round >= u64::from(time.rounds) {
         return;
     }
-    if let Some(seat) = seat {
-        flows[seat.place()].credit(time, grant.round as u32, grant.credit);
+    if let Some(place) = place {
+        flows[place].credit(time, grant.round as u32, grant.credit);
     }
 }
 

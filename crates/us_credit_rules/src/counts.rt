@@ -3,7 +3,7 @@ ghost use Rattle.us_flows.specs.Tables.{Tables};
 ghost use Rattle.us_lawful.specs.Runs.{Judged, counts_told, run_in};
 ghost use Rattle.us_lawful.specs.Finals.{counts_hold, is_same_counts};
 ghost use Rattle.us_reports.specs.Breaches.{IsFirstBreach};
-ghost use Rattle.us_credit_rules.specs.CreditLines.{AreCreditLines};
+ghost use Rattle.us_credit_rules.specs.CreditLines.{AreKept};
 ghost use Rattle.us_credit_rules.specs.Tellings.{is_once};
 
 use crate::credit_lines::CreditLines;
@@ -15,7 +15,7 @@ use us_round::TraceCounts;
 /// The place of the U line, where there is none, are several, or the one doesn't tell the counts of the trace: behind the
 /// last round, with the channel and the third number 0.
 pub fn counts_breach(trace: &Trace, lines: &CreditLines) -> Option<Place>
-    ensures { (t : Tables) (judged : Judged) → AreCreditLines t trace.now judged.lines lines.now →
+    ensures { (t : Tables) (judged : Judged) → AreKept t trace.now judged.lines lines.now →
         IsFirstBreach t.channels (λ p. counts_hold (run_in t trace.now) judged p ≡ true) result }
 {
     if is_told(trace, lines.counts) {

@@ -64,6 +64,7 @@ impl<'a> CreditLines<'a> {
     }
 
     /// Whether a line may be told next: it is of no request, or of no earlier round than the requests before it.
+    #[inline(always)]
     pub fn is_due(&self, line: &Row) -> bool
         ensures { result ≡ spec.is_due self.now.requests.latest line.now }
     {
@@ -76,6 +77,7 @@ impl<'a> CreditLines<'a> {
     }
 
     /// A line more.
+    #[inline(always)]
     pub fn take(&mut self, config: &Config, trace: &Trace, line: &Row)
         requires due { spec.is_due self.old.requests.latest line.now ≡ true }
         requires kept { (lines : List Row) × spec.AreKept config.now trace.now lines self.old }
@@ -83,7 +85,6 @@ impl<'a> CreditLines<'a> {
             spec.AreKept config.now trace.now (lines ++ line.now ∷ []) self.new }
         ensures latest { self.new.requests.latest ≡ spec.latest_behind self.old.requests.latest line.now }
     {
-        let channels = config.channels();
         match line {
             Row::Granted(grant) => {
                 if grant.entry == EntryWord::Requested {
@@ -92,10 +93,18 @@ impl<'a> CreditLines<'a> {
             }
             Row::Final(state) => {
                 let cluster = self.seats.word(state.flow, state.cluster);
-                self.finals
-                    .take(channels, trace.rounds(), state.flow, cluster, *state);
+                self.finals.take(
+                    config.channels(),
+                    trace.rounds(),
+                    state.flow,
+                    cluster,
+                    *state,
+                );
             }
-            Row::Activity(activity) => self.talkers.take(channels, trace.rounds(), *activity),
+            Row::Activity(activity) => {
+                self.talkers
+                    .take(config.channels(), trace.rounds(), *activity);
+            }
             Row::Counts(counts) => self.counts = self.counts.and(*counts),
             Row::Missed(_) => {}
         }

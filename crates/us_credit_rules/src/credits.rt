@@ -3,7 +3,7 @@ ghost use Rattle.us_requests.specs.Traces.{TraceAsks};
 ghost use Rattle.us_lawful.specs.Runs.{Judged, run_in};
 ghost use Rattle.us_lawful.specs.Credits.{credits_hold};
 ghost use Rattle.us_reports.specs.Breaches.{IsFirstBreach};
-ghost use Rattle.us_credit_rules.specs.CreditLines.{AreCreditLines};
+ghost use Rattle.us_credit_rules.specs.CreditLines.{AreKept};
 ghost use Rattle.us_credit_rules.specs.Ends.{first_of};
 ghost use Rattle.us_credit_rules.specs.Ledgers as spec;
 
@@ -17,7 +17,7 @@ use us_reports::{Place, earlier};
 /// line's round, channel and id; or a cluster that is credited more in a round than is outstanding, whose place has the
 /// channel 0 and the id of the flow.
 pub fn credits_breach(config: &Config, lines: &CreditLines) -> Option<Place>
-    ensures { (v : TraceAsks) (judged : Judged) → AreCreditLines config.now v judged.lines lines.now →
+    ensures { (v : TraceAsks) (judged : Judged) → AreKept config.now v judged.lines lines.now →
         IsFirstBreach config.now.channels (λ p. credits_hold (run_in config.now v) judged p ≡ true) result }
 {
     let sum = first_sum(config, lines);

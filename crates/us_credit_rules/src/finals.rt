@@ -4,7 +4,7 @@ ghost use Rattle.us_flows.specs.Tables.{rounds_fit};
 ghost use Rattle.us_lawful.specs.Runs.{Judged, run_in};
 ghost use Rattle.us_lawful.specs.Finals.{finals_hold};
 ghost use Rattle.us_reports.specs.Breaches.{IsFirstBreach};
-ghost use Rattle.us_credit_rules.specs.CreditLines.{AreCreditLines};
+ghost use Rattle.us_credit_rules.specs.CreditLines.{AreKept};
 ghost use Rattle.us_credit_rules.specs.Ends.{first_of};
 ghost use Rattle.us_credit_rules.specs.LastLines as spec;
 ghost use Rattle.us_credit_rules.specs.Ledgers.{AreAsked};
@@ -33,7 +33,7 @@ pub fn finals_breach(
     lines: &CreditLines,
 ) -> Result<Option<Place>, NoMemory>
     requires { rounds_fit config.now trace.now.rounds ≡ true }
-    ensures { IfOk result (λ first. (judged : Judged) → AreCreditLines config.now trace.now judged.lines lines.now →
+    ensures { IfOk result (λ first. (judged : Judged) → AreKept config.now trace.now judged.lines lines.now →
         IsFirstBreach config.now.channels (λ p. finals_hold (run_in config.now trace.now) judged p ≡ true) first) }
 {
     let asked = all_asked(alloc, config, trace)?;

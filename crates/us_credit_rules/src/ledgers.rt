@@ -35,10 +35,9 @@ impl Account {
     fn credit(&mut self, asked: u64, round: u32, bytes: u64)
         ensures { spec.TakesCredit asked round bytes self.old self.new }
     {
-        self.short = match self.short {
-            None if self.left_of(asked) < bytes => Some(round),
-            short => short,
-        };
+        if self.left_of(asked) < bytes && self.short.is_none() {
+            self.short = Some(round);
+        }
         self.credited = self.credited.saturating_add(bytes);
     }
 
@@ -85,6 +84,7 @@ impl Ledger {
     }
 
     /// A line more, which is of no earlier round than the lines before. It credits this cluster.
+    #[inline(always)]
     pub(crate) fn take(&mut self, trace: &Trace, seat: Option<&Seat>, grant: &Grant)
         requires ordered { self.old.begun ≤ grant.now.round + 1 }
         requires asked { AreAsked trace.now self.old.begun self.old.asked.items }

@@ -4,7 +4,7 @@ ghost use Rattle.us_lawful.specs.Runs.{Judged, run_in};
 ghost use Rattle.us_lawful.specs.Rates.{rates_hold};
 ghost use Rattle.us_reports.specs.Breaches.{IsFirstBreach};
 ghost use Rattle.us_credit_rules.specs.Buckets as spec;
-ghost use Rattle.us_credit_rules.specs.CreditLines.{AreCreditLines};
+ghost use Rattle.us_credit_rules.specs.CreditLines.{AreKept};
 
 use crate::buckets::{FlowAccount, account_of};
 use crate::credit_lines::CreditLines;
@@ -14,7 +14,7 @@ use us_reports::{Place, earlier};
 /// Where the credits of a flow first break its rate: over some span of rounds that ends there. The third number of a
 /// place is the flow's id, and its channel 0.
 pub fn rates_breach(config: &Config, lines: &CreditLines) -> Option<Place>
-    ensures { (v : TraceAsks) (judged : Judged) → AreCreditLines config.now v judged.lines lines.now →
+    ensures { (v : TraceAsks) (judged : Judged) → AreKept config.now v judged.lines lines.now →
         IsFirstBreach config.now.channels (λ p. rates_hold (run_in config.now v) judged p ≡ true) result }
 {
     let mut first = None;

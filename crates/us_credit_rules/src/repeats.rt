@@ -1,14 +1,14 @@
-ghost use Rattle.std.specs.Prelude.{◌≡◌, ◌*◌, ◌+◌, ◌≤◌, ◌&&◌, ◌<◌, None, Some, not, length, replicate, slice_set, IfOk, IfSome};
+ghost use Rattle.std.specs.Prelude.{◌≡◌, ◌*◌, ◌+◌, ◌≤◌, ◌==◌, ◌<◌, None, Some, length, map, position, replicate, slice_get, slice_set, true, IfOk, IfSome};
 ghost use Rattle.std.specs.Option.{option_copied};
+ghost use Rattle.us_flows.specs.Lawful.{AreApart};
 ghost use Rattle.us_flows.specs.Tables as tables;
 ghost use Rattle.us_flows.specs.Clusters as clusters;
 ghost use Rattle.us_lawful.specs.Credits as credits;
 ghost use Rattle.us_reports.specs.Order.{earlier};
-ghost use Rattle.us_credit_rules.specs.Ends as ends;
 ghost use Rattle.us_credit_rules.specs.Repeats as spec;
 ghost use Rattle.us_credit_rules.specs.Seats.{word_in};
 
-use crate::costs::grant_cost;
+use crate::costs::is_cost;
 use crate::seats::Seat;
 use std::alloc::{AllocError, Global};
 use us_flows::Channel;
@@ -28,6 +28,8 @@ pub(crate) struct Repeats {
     last: Vec<Option<u64>>,
     /// The place of the first line that isn't right.
     pub(crate) first: Option<Place>,
+    /// Where the channel of the last line stands in the table: that of the next line is looked for there first.
+    near: usize,
 }
 
 impl Repeats {
@@ -37,22 +39,31 @@ impl Repeats {
         ensures { IfOk result (λ none. (none.last.items ≡ replicate (words * 256) None) × (none.first ≡ None)) }
     {
         let last = vec![in alloc; None; words * KEYS]?;
-        Ok(Repeats { last, first: None })
+        Ok(Repeats {
+            last,
+            first: None,
+            near: 0,
+        })
     }
 
     /// A line more, which names this cluster, if any. It isn't right where it names none, has another third
     /// number than 0, a SID that isn't the cluster's on the channel, no credit or another cost than its credit's, or is like
     /// one before. The third number of a place is the id that the line tells.
+    #[inline(always)]
     pub(crate) fn take(&mut self, channels: &[Channel], seat: Option<&Seat>, grant: &Grant)
-        requires { IfSome seat (λ seat. seat.now.number * 256 + 256 ≤ length self.old.last.items) }
+        requires apart { AreApart (map (λ c. c.id) channels.now) }
+        requires room { IfSome seat (λ seat. seat.now.number * 256 + 256 ≤ length self.old.last.items) }
         ensures last { self.new.last.items ≡ spec.noted self.old.last.items
             (spec.key_for (word_in (option_copied seat.entry)) grant.now.channel) grant.now.round }
         ensures first { self.new.first ≡ earlier channels.now self.old.first
             (spec.wrong_place channels.now self.old.last.items grant.now (option_copied seat.entry)) }
     {
         let told = told_again(&mut self.last, key_of(seat, grant.channel), grant.round);
-        let right = is_right(channels, seat, grant);
-        self.first = first_wrong(channels, self.first, !told && right, grant);
+        self.near = place_near(channels, self.near, grant.channel);
+        let right = !told && is_right(channels.get(self.near), seat, grant);
+        if !right {
+            self.first = first_wrong(channels, self.first, grant);
+        }
     }
 }
 
@@ -88,18 +99,11 @@ fn key_of(seat: Option<&Seat>, channel: u64) -> Option<usize>
     Some(usize::from(seat.word()) * KEYS + usize::from(channel))
 }
 
-/// The first place of a wrong line, with one line more, which counts only if it isn't right.
-fn first_wrong(
-    channels: &[Channel],
-    first: Option<Place>,
-    right: bool,
-    grant: &Grant,
-) -> Option<Place>
-    ensures { result ≡ earlier channels.now first (ends.unless right (spec.line_place grant.now)) }
+/// The first place of a wrong line, with one wrong line more. Few lines are wrong, so it stands apart.
+#[inline(never)]
+fn first_wrong(channels: &[Channel], first: Option<Place>, grant: &Grant) -> Option<Place>
+    ensures { result ≡ earlier channels.now first (Some (spec.line_place grant.now)) }
 {
-    if right {
-        return first;
-    }
     let wrong = Place {
         round: grant.round,
         channel: grant.channel,
@@ -108,9 +112,10 @@ fn first_wrong(
     earlier(channels, first, Some(wrong))
 }
 
-/// Whether a line is right for the cluster that it names, whatever other lines there are.
-fn is_right(channels: &[Channel], seat: Option<&Seat>, grant: &Grant) -> bool
-    ensures { result ≡ spec.is_right_for channels.now grant.now (option_copied seat.entry) }
+/// Whether a line is right for its channel and the cluster that it names, if there are such, whatever other lines
+/// there are.
+fn is_right(channel: Option<&Channel>, seat: Option<&Seat>, grant: &Grant) -> bool
+    ensures { result ≡ spec.is_right_on (option_copied channel.entry) grant.now (option_copied seat.entry) }
 {
     let Some(seat) = seat else {
         return false;
@@ -118,7 +123,7 @@ fn is_right(channels: &[Channel], seat: Option<&Seat>, grant: &Grant) -> bool
     grant.k == 0
         && has_sid(seat, grant.channel, grant.sid)
         && grant.credit > 0
-        && has_cost(channels, seat, grant)
+        && has_cost(channel, seat, grant)
 }
 
 /// Whether a cluster has this SID on this channel.
@@ -134,11 +139,10 @@ fn has_sid(seat: &Seat, channel: u64, sid: u64) -> bool
 }
 
 /// Whether a line has the minislots and the IUC of a grant of its credit behind the header.
-fn has_cost(channels: &[Channel], seat: &Seat, grant: &Grant) -> bool
-    ensures { result ≡ credits.has_cost seat.now.cluster grant.now
-        (tables.channel_with channels.now grant.now.channel) }
+fn has_cost(channel: Option<&Channel>, seat: &Seat, grant: &Grant) -> bool
+    ensures { result ≡ credits.has_cost seat.now.cluster grant.now (option_copied channel.entry) }
 {
-    let Some(channel) = channel_with(channels, grant.channel) else {
+    let Some(channel) = channel else {
         return false;
     };
     let header = if seat.flow().headers() {
@@ -146,14 +150,42 @@ fn has_cost(channels: &[Channel], seat: &Seat, grant: &Grant) -> bool
     } else {
         0
     };
-    let bytes = u128::from(grant.credit) + u128::from(header);
-    let (slots, iuc) = grant_cost(&channel.bursts, bytes);
-    u128::from(grant.slots) == slots && grant.iuc == u64::from(iuc.number())
+    is_cost(&channel.bursts, header, grant)
 }
 
-/// The channel with this id.
-fn channel_with(channels: &[Channel], id: u64) -> Option<&Channel>
-    ensures { option_copied result ≡ tables.channel_with channels.now id }
+/// The place in the table of the channel with this id, or one behind all. It is looked for first in the place `near` and
+/// the next one.
+fn place_near(channels: &[Channel], near: usize, id: u64) -> usize
+    requires { AreApart (map (λ c. c.id) channels.now) }
+    ensures { slice_get channels.now result ≡ tables.channel_with channels.now id }
 {
-    channels.iter().find(|channel| u64::from(channel.id) == id)
+    if is_at(channels, near, id) {
+        return near;
+    }
+    let next = near.wrapping_add(1);
+    if is_at(channels, next, id) {
+        return next;
+    }
+    place_of(channels, id).unwrap_or(channels.len())
+}
+
+/// Whether a channel stands at a place of the table and has this id.
+fn is_at(channels: &[Channel], place: usize, id: u64) -> bool
+    requires { AreApart (map (λ c. c.id) channels.now) }
+    ensures { result ≡ true → slice_get channels.now place ≡ tables.channel_with channels.now id }
+{
+    if place >= channels.len() {
+        return false;
+    }
+    u64::from(channels[place].id) == id
+}
+
+/// The place in the table of the channel with this id.
+#[inline(never)]
+fn place_of(channels: &[Channel], id: u64) -> Option<usize>
+    ensures { result ≡ position (λ channel. channel.id == id) channels.now }
+{
+    channels
+        .iter()
+        .position(|channel| u64::from(channel.id) == id)
 }

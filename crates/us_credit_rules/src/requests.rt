@@ -46,6 +46,7 @@ impl Requests {
     }
 
     /// A line more.
+    #[inline(never)]
     pub(crate) fn take(&mut self, config: &Config, trace: &Trace, seats: &Seats, grant: &Grant)
         requires due { self.old.latest ≤ grant.now.round }
         requires seats { seats.now ≡ table_order config.now }
@@ -59,7 +60,8 @@ impl Requests {
             round_ticks: config.round_ticks(),
         };
         let seat = seats.find(grant.id, grant.i);
-        take_credit(&mut self.flows, time, seats.find(grant.id, 0), grant);
+        let place = seats.flow(grant.id, seat);
+        take_credit(&mut self.flows, time, place, grant);
         self.ledger.take(trace, seat, grant);
         self.repeats.take(config.channels(), seat, grant);
         self.latest = grant.round;

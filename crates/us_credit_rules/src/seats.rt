@@ -1,5 +1,6 @@
 ghost use Rattle.std.specs.Prelude.{◌≡◌, ◌≤◌, ◌++◌, ◌==◌, ◌<◌, ℕ, List, Some, None, find, length, if◌then◌else◌, slice_index_or, IfOk, OnOk};
 ghost use Rattle.std.specs.Option.{option_copied};
+ghost use Rattle.us_flows.specs.Tables.{Tables};
 ghost use Rattle.us_flows.specs.Lawful.{AreTables};
 ghost use Rattle.us_flows.specs.Ranges.{max_clusters, max_clusters_of_flow};
 ghost use Rattle.us_flows.specs.Clusters.{Turn, requesting, table_order, turns_for};
@@ -68,6 +69,28 @@ impl<'a> Seats<'a> {
         }
         let place = place_at(places, id * LISTS + list)?;
         self.seats.get(usize::from(place))
+    }
+
+    /// The place of the flow with this id, if it makes requests. `seat` is the cluster that a line with this id names, if any: then
+    /// its flow needn't be looked for.
+    pub(crate) fn flow(&self, id: u64, seat: Option<&Seat>) -> Option<usize>
+        ensures { (t : Tables) (list : ℕ) → AreTables t → self.now ≡ table_order t →
+            option_copied seat.entry ≡ find (spec.names id list) self.now →
+            result ≡ spec.flow_in (find (spec.names id 0) self.now) }
+    {
+        match seat {
+            Some(seat) => Some(seat.place()),
+            None => self.first(id),
+        }
+    }
+
+    /// The place among the flows of the one with an id, by its first cluster.
+    #[inline(never)]
+    fn first(&self, id: u64) -> Option<usize>
+        ensures { result ≡ spec.flow_in (find (spec.names id 0) self.now) }
+    {
+        let seat = self.find(id, 0)?;
+        Some(seat.place())
     }
 
     /// The word of the cluster at a place of the flow with an id.

@@ -55,6 +55,7 @@ impl Talkers {
     }
 
     /// A line more.
+    #[inline(never)]
     pub(crate) fn take(&mut self, channels: &[Channel], rounds: u32, line: FinalActivity)
         ensures { (t : Tables) (v : TraceAsks) (lines : List FinalActivity) → channels.now ≡ t.channels →
             rounds ≡ v.rounds → spec.AreTalkers t v lines self.old → spec.AreTalkers t v (lines ++ line ∷ []) self.new }

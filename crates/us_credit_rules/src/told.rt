@@ -67,6 +67,7 @@ impl<T: Copy + Drop> Tellings<T> {
     }
 
     /// A line more of the flow with this id, which tells of the thing with this number, if of any.
+    #[inline(never)]
     pub(crate) fn take(
         &mut self,
         channels: &[Channel],

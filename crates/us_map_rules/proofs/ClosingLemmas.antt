@@ -1,9 +1,12 @@
 -- When windows close: those of an entry one after another, so that the first occurrence that is wrong is its first breach.
-use Rattle.std.proofs.Common.{◌≡◌, ℕ, ◌+◌, ◌-◌, ◌*◌, ◌/◌, ◌%◌, ◌<◌, ◌≤◌, ◌==◌, ◌||◌, Bool, true, false, List, Some, None, refl, ap, ap₂, sym, subst, ◌∙◌, inl, inr, arith, ltb-true, lt-ltb, le-ltb, eq-eqb, ne_eqb}
+use Rattle.std.proofs.Common.{◌≡◌, ℕ, ◌+◌, ◌-◌, ◌*◌, ◌/◌, ◌%◌, ◌<◌, ◌^◌, ◌≤◌, ◌==◌, nat_le, ◌||◌, ◌⊎◌, Bool, true, false, List, Some, None, refl, ap, ap₂, sym, subst, ◌∙◌, inl, inr, arith, ltb-true, lt-ltb, le-ltb, eq-eqb, ne_eqb}
 use Rattle.std.specs.Prelude.{if◌then◌else◌}
 use Rattle.std.proofs.Math.Nat.{div-mul-le_self, div-zero}
-use Rattle.std.proofs.lemmas.Bool.{cases_eq, cases_lt, false≢true, or_right}
-use Rattle.std.proofs.lemmas.Nat.{div-add-mod', div-mul-add, le-div, mod-mul-add, mod_below, mul-le}
+use Rattle.std.proofs.lemmas.Bool.{cases_eq, cases_lt, false≢true, lt-leb, and_right, or_right}
+use Rattle.std.proofs.lemmas.Nat.{div-add-mod', div-mul-add, le-div, mod-mul-add, mod_below, mul-le, pow_pos}
+use Rattle.us_slots.specs.Times.{minislot_ticks, quarters_per_tick, start_of}
+use Rattle.us_flows.specs.Lawful.{IsChannel}
+use Rattle.us_flows.specs.Tables.{Tables, map_len}
 use Rattle.us_flows.specs.declared.channels.Channel.{Channel}
 use Rattle.us_calendar.specs.Entries.{Entry}
 use Rattle.us_calendar.specs.Occurrences.{ideal, window_end}
@@ -13,6 +16,7 @@ use Rattle.us_lawful.specs.CalendarLines.{ChannelEntry, closes, closing_round, r
 use Rattle.us_reports.specs.Order.{goes_before}
 use Rattle.us_reports.specs.Breaches.{IsFirstFailure}
 use Rattle.us_map_rules.specs.Failures.{ClosingFails, IsDue, IsFirstWrong, comes_in}
+use Rattle.us_map_rules.specs.Naming.{starts_from}
 
 -- Quotients don't fall,
 div-rises : (m n k : ℕ) → m ≤ n → m / k ≤ n / k
@@ -109,3 +113,49 @@ module _ (run : Run) (l : ChannelEntry) (n : ℕ) (some : 1 ≤ l.entry.grants) 
             ∙ ap (λ b. b || (k == 0)) silent
             ∙ ne_eqb k 0 inner;
       }
+
+-- Where minislots begin.
+
+module _ (t : Tables) (c : Channel) (lawful : IsChannel t c) (round start : ℕ) where
+  -- by the round and what lies before them in it,
+  pub begins_at : (quarters ticks : ℕ) → quarters ≡ round_quarters t → ticks ≡ minislot_ticks c.bursts.time →
+      round * quarters + quarters_per_tick * (start * ticks) ≡ start_of c.bursts.time (round * map_len t c + start)
+  begins_at quarters ticks quarters_is ticks_is =
+      let per : ℕ = minislot_ticks c.bursts.time in
+      let spread : round * (quarters_per_tick * (map_len t c * per)) + quarters_per_tick * (start * per)
+      ≡ quarters_per_tick * ((round * map_len t c + start) * per) = omega arith in
+      ap₂ (λ q k. round * q + quarters_per_tick * (start * k))
+      (quarters_is ∙ ap (λ all. quarters_per_tick * all) (sym lawful.whole)) ticks_is
+      ∙ spread
+
+  abbrev pub begins : ℕ
+  begins = start_of c.bursts.time (round * map_len t c + start)
+
+  begins_is : round * round_quarters t + quarters_per_tick * (start * minislot_ticks c.bursts.time) ≡ begins
+  begins_is = begins_at (round_quarters t) (minislot_ticks c.bursts.time) refl refl
+
+  -- so that 64 bits tell it where neither number is great,
+  pub begins_soon : t.round_ticks ≤ 4096 → round < 2 ^ 46 → start < 2 ^ 46 → begins < 2 ^ 64
+  begins_soon few early near =
+      let per : ℕ = minislot_ticks c.bursts.time in
+      let inside : 1 * per ≤ map_len t c * per = mul-le 1 per (map_len t c) per lawful.len.0 (omega arith) in
+      let rounds : round * round_quarters t ≤ 70368744177664 * 102400 =
+      mul-le round (round_quarters t) 70368744177664 102400 (omega (arith, early)) (omega (arith, few)) in
+      let minislots : start * per ≤ 70368744177664 * 4096 =
+      mul-le start per 70368744177664 4096 (omega (arith, near)) (omega (arith, inside, lawful.whole, few)) in
+      omega (arith, begins_is, rounds, minislots)
+
+  -- and behind each window where one is
+  pub begins_late : (e : Entry) (begin : ℕ) → 1 ≤ t.round_ticks → (2 ^ 46 ≤ round) ⊎ (2 ^ 46 ≤ start) →
+      begin + e.jitter < 2 ^ 50 → starts_from c.bursts.time e begin (round * map_len t c + start) ≡ false
+  begins_late e begin some great near =
+      let per : ℕ = minislot_ticks c.bursts.time in
+      let rounds : round * 25 ≤ round * round_quarters t =
+      mul-le round 25 round (round_quarters t) (omega arith) (omega (arith, some)) in
+      let minislots : start * 1 ≤ start * per =
+      mul-le start 1 start per (omega arith) (omega (arith, pow_pos c.bursts.time.minislot_log2)) in
+      let behind : begin + e.jitter < begins = elim great [
+        | inl late ↦ omega (arith, begins_is, rounds, late, near)
+        | inr late ↦ omega (arith, begins_is, minislots, late, near)
+      ] in
+      and_right (nat_le begin begins) (nat_le begins (begin + e.jitter)) (lt-leb begins (begin + e.jitter) behind)

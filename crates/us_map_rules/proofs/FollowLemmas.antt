@@ -1,6 +1,7 @@
 -- Elements that are the regions one after another, and the gaps between them.
-use Rattle.std.proofs.Common.{◌≡◌, ℕ, suc, ◌+◌, ◌<◌, ◌≤◌, true, List, [], ◌∷◌, ◌++◌, map, refl, sym, ap, ◌∙◌, subst, append-nil, length, get_or, drop, drop-cons, add-one, arith, inl, inr}
-use Rattle.std.proofs.lemmas.Bool.{le-ltb, lt-ltb}
+use Rattle.std.proofs.Common.{◌≡◌, ℕ, suc, ◌+◌, ◌<◌, ◌≤◌, Bool, true, List, [], ◌∷◌, ◌++◌, map, Option, Some, None, refl, sym, ap, ◌∙◌, subst, append-nil, length, get_or, drop, drop-cons, add-one, arith, inl, inr}
+use Rattle.std.specs.Prelude.{IfNone, is_some, not}
+use Rattle.std.proofs.lemmas.Bool.{false≢true, le-ltb, lt-ltb}
 use Rattle.std.proofs.lemmas.List.{drop_all}
 use Rattle.us_flows.specs.declared.channels.Channel.{Channel}
 use Rattle.us_holes.specs.Boards.{Assignment}
@@ -74,7 +75,11 @@ step_follows c len from end i d s regions rest behind more inside is gap region 
 
 -- and its end
 pub end_follows : (c : Channel) (len from i : ℕ) (regions rest behind : List Region) → length regions ≤ i →
-    IsBehindGap c from len rest behind → length behind < 1 → Follows c len from (drop i regions) rest
-end_follows c len from i regions rest [] over gap none =
-    subst (λ rs. Follows c len from rs rest) (sym (drop_all i regions over)) (last_follows c len from rest gap)
-end_follows c len from i regions rest (s ∷ behind) over gap none = absurd (omega (arith, none))
+    IsBehindGap c from len rest behind → behind ≡ [] → Follows c len from (drop i regions) rest
+end_follows c len from i regions rest behind over gap none =
+    subst (λ rs. Follows c len from rs rest) (sym (drop_all i regions over))
+    (last_follows c len from rest (subst (IsBehindGap c from len rest) none gap))
+
+pub none_told : {X : Type 0} (o : Option X) (P : Type 0) (none : Bool) → is_some o ≡ not none → none ≡ true → IfNone o P → P
+none_told None P none is so told = told
+none_told (Some x) P none is so told = absurd (false≢true (sym (is ∙ ap not so)))

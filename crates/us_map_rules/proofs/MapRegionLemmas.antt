@@ -1,31 +1,45 @@
 -- What must be in a MAP, put in order.
-use Rattle.std.proofs.Common.{◌≡◌, ℕ, suc, ◌<◌, ◌≤◌, List, [], ◌∷◌, ◌++◌, length, get_or, IsPermutation, sym, ap, ◌∙◌, arith}
-use Rattle.std.specs.Prelude.{sum_by}
+use Rattle.std.proofs.Common.{◌≡◌, ℕ, suc, ◌<◌, ◌≤◌, List, [], ◌∷◌, ◌++◌, length, get_or, Option, refl, sym, ap, subst, arith}
+use Rattle.std.specs.Prelude.{Result, Ok, Err, IfOk, sum_by}
 use Rattle.std.specs.List.{AllByRecursion}
 use Rattle.std.specs.List.Sorted.{IsNonDecreasingBy}
 use Rattle.us_flows.specs.declared.channels.Channel.{Channel}
 use Rattle.us_lawful.specs.Regions.{Region, minislot_holds}
 use Rattle.us_lawful.proofs.RegionLemmas.{moved_holds}
-use Rattle.us_lawful.proofs.SameLemmas.{Same, same_moved, sum_append}
-use Rattle.us_map_rules.specs.Minislots.{AreByStart}
+use Rattle.us_lawful.proofs.SameLemmas.{Same, sum_append}
+use Rattle.us_map_rules.specs.Minislots.{AreByStart, IsFirstFailing}
+use Rattle.us_map_rules.proofs.PartLemmas.{same_test}
 
-between_moved : {X : Type 0} (front middle back : List X) → Same (front ++ middle ++ back) (front ++ back ++ middle)
-between_moved front middle back f =
+-- a MAP fails first at the same minislot, however what must be there is put in order
+pub moved_failing : (c : Channel) (len : ℕ) (gathered ordered pieces elements : List Region) (first : Option ℕ) →
+    Same gathered ordered → pieces ≡ elements → IsFirstFailing (minislot_holds c len ordered pieces) first →
+    IsFirstFailing (minislot_holds c len gathered elements) first
+moved_failing c len gathered ordered pieces elements first same is failing =
+    subst (λ es. IsFirstFailing (minislot_holds c len gathered es) first) is
+    (same_test (minislot_holds c len ordered pieces) (minislot_holds c len gathered pieces) first
+    (λ at. moved_holds c len ordered gathered pieces at (λ f. sym (same f))) failing)
+
+-- and so where the reserves are put to lines
+between_moved : (front middle back gathered : List Region) → gathered ≡ front ++ middle ++ back →
+    Same (front ++ back ++ middle) gathered
+between_moved front middle back gathered is f =
     omega (
       arith,
+      ap (sum_by f) is,
       sum_append f (front ++ middle) back,
       sum_append f front middle,
       sum_append f (front ++ back) middle,
       sum_append f front back,
     )
 
--- a MAP is right at the same minislots, however what must be there is put in order
-pub moved_same : (c : Channel) (front middle back gathered ordered : List Region) → gathered ≡ front ++ middle ++ back →
-    IsPermutation gathered ordered → (len : ℕ) (pieces : List Region) (at : ℕ) →
-    minislot_holds c len ordered pieces at ≡ minislot_holds c len (front ++ back ++ middle) pieces at
-moved_same c front middle back gathered ordered is moved len pieces at =
-    moved_holds c len ordered (front ++ back ++ middle) pieces at
-    (λ f. sym (same_moved gathered ordered moved f) ∙ ap (sum_by f) is ∙ between_moved front middle back f)
+pub reserved_failing : {E : Type 0} (c : Channel) (len whole : ℕ) (front middle back gathered pieces : List Region) (side : Type 0)
+    (answer : Result (Option ℕ) E) → len ≡ whole → gathered ≡ front ++ middle ++ back →
+    IfOk answer (λ first. side → IsFirstFailing (minislot_holds c len gathered pieces) first) →
+    IfOk answer (λ first. side → IsFirstFailing (minislot_holds c whole (front ++ back ++ middle) pieces) first)
+reserved_failing c len whole front middle back gathered pieces side (Err e) long is told = told
+reserved_failing c len whole front middle back gathered pieces side (Ok first) long is told = λ stand.
+    moved_failing c whole (front ++ back ++ middle) gathered pieces pieces first (between_moved front middle back gathered is) refl
+    (subst (λ l. IsFirstFailing (minislot_holds c l gathered pieces) first) long (told stand))
 
 all_indexed : (least : ℕ) (regions : List Region) →
     ((j : ℕ) (d : Region) → j < length regions → least ≤ (get_or regions j d).start) →

@@ -12,7 +12,7 @@ use Rattle.us_map_rules.specs.Minislots.{IsFirstFailing, lesser, owners_hold, el
 -- Tests.
 
 -- tests that agree everywhere fail first at the same number
-same_test : (f g : ℕ → Bool) (answer : Option ℕ) → ((at : ℕ) → f at ≡ g at) →
+pub same_test : (f g : ℕ → Bool) (answer : Option ℕ) → ((at : ℕ) → f at ≡ g at) →
     IsFirstFailing f answer → IsFirstFailing g answer
 same_test f g None same first = λ at. sym (same at) ∙ first at
 same_test f g (Some n) same first = (sym (same n) ∙ first.0, λ at before. sym (same at) ∙ first.1 at before)
@@ -36,10 +36,6 @@ both f g (Some a) (Some b) of_f of_g = elim (cases_Bool (nat_lt b a)) [
 
 abbrev StartsFrom : ℕ → List Region → Type 0
 StartsFrom from regions = AllByRecursion (λ later. from ≤ later.start) regions
-
-starts_lower : (low high : ℕ) (regions : List Region) → low ≤ high → StartsFrom high regions → StartsFrom low regions
-starts_lower low high [] less from = tt
-starts_lower low high (s ∷ more) less from = (omega (arith, less, from.0), starts_lower low high more less from.1)
 
 -- Empty regions.
 

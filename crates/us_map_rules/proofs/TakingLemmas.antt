@@ -1,7 +1,7 @@
 -- Lines: what one names, and what one more tells, of the entry that it calls alone.
 use Rattle.std.proofs.Common.{◌≡◌, ℕ, ◌<◌, ◌&&◌, Bool, true, false, List, [], ◌∷◌, ◌++◌, length, get_or, set, cond, ne_eqb, Option, Some, None, refl, ap, ap₂, sym, subst, ◌∙◌, inl, inr, arith, ◌+◌, ◌*◌, ◌/◌, ◌≤◌, ◌==◌, nat_lt, div-lt_iff_lt-mul, lt-ltb, ltb-true}
 use Rattle.std.specs.List.{list_any}
-use Rattle.std.specs.Option.{is_some, option_to_list}
+use Rattle.std.specs.Option.{option_to_list}
 use Rattle.std.specs.Prelude.{All, IfSome, filter_map, if◌then◌else◌, not, option_and_then, option_map}
 use Rattle.std.proofs.lemmas.Bool.{and_parts, cases_Bool, cases_eq, false_from_ne_true, false≢true}
 use Rattle.std.proofs.lemmas.List.{append-nil, get_or-set_other, get_or-set_same, get_or_default}
@@ -19,11 +19,14 @@ use Rattle.us_output.specs.declared.rows.Row.TheVariants as rows
 use Rattle.us_lawful.proofs.NameLemmas.{no_request}
 use Rattle.us_lawful.specs.CalendarLines.{ChannelEntry, closes, is_right_line, is_calendar_line_at, is_named, is_there, is_word, names, number_of, round_quarters, speaks_in, times}
 use Rattle.us_lawful.specs.Runs.{Run}
+use Rattle.us_flows.specs.declared.channels.Channel.{Channel}
+use Rattle.us_reports.proofs.BreachLemmas.{at_test, one_behind}
+use Rattle.us_reports.specs.Breaches.{Any, At, IsFirstFailure}
 use Rattle.us_reports.specs.Rows.{is_requested}
 use Rattle.us_reports.specs.declared.place.Place.{Place}
 use Rattle.us_map_rules.specs.Listed.{AreListed, is_called}
-use Rattle.us_map_rules.specs.Naming.{calendar_line, is_of_there, number_in, number_told, occurrence, tells, tells_right}
-use Rattle.us_map_rules.specs.Failures.{comes_in, times_in, times_named}
+use Rattle.us_map_rules.specs.Naming.{calendar_line, calendar_place, is_of_there, number_in, number_told, occurrence, tells, tells_right}
+use Rattle.us_map_rules.specs.Failures.{FailsAsLine, LineFails, comes_in, times_in, times_named}
 use Rattle.us_map_rules.specs.Told.{AreToldOf, IsNamed, IsTold, IsToldMore, ToldEntry, nothing, open_line_of, open_told, times_told, told_number}
 use Rattle.us_map_rules.specs.declared.naming.CalendarLine.{CalendarLine}
 use Rattle.us_map_rules.specs.declared.windows.Occurrence.{Occurrence}
@@ -98,12 +101,6 @@ line_is (rows.Activity a) = record { at = λ p. refl; names = λ e n. refl; numb
 line_is (rows.Counts c) = record { at = λ p. refl; names = λ e n. refl; number = λ e. tt }
 
 -- The entry that it calls.
-
--- whether a window closes, by what is told of it
-pub some_closed : (closed : Bool) (round : ℕ) (told : Option ℕ) (none : Bool) →
-    told ≡ (if closed then Some round else None) → is_some told ≡ not none → closed ≡ not none
-some_closed true round told none is known = ap is_some (sym is) ∙ known
-some_closed false round told none is known = ap is_some (sym is) ∙ known
 
 -- the number of an occurrence that is told
 pub occurrence_is : (run : Run) (e : Entry) (told : Option ℕ) (o : Occurrence) → Some o ≡ option_map (occurrence run e) told →
@@ -249,7 +246,17 @@ module _ (run : Run) (row : Row) where
     wrong_for l out =
         ap (λ b. (b && is_of_there run l.entry line) && is_right_line run l (number_in l.entry line) row) out
 
-    -- and it isn't right.
+    -- It fails where it is, unless it is right,
+    pub line_first : calendar_line row ≡ Some line → (right : Bool) → list_any (tells_right run row line) es ≡ right →
+        IsFirstFailure run.tables.channels (LineFails run es row) (if right then None else calendar_place row)
+    line_first is right holds =
+        subst (λ o. IsFirstFailure run.tables.channels (FailsAsLine run es row o)
+        (if right then None else option_map (λ line. line.at) o)) (sym is)
+        (subst (λ b. IsFirstFailure run.tables.channels (At line.at (list_any (tells_right run row line) es))
+        (if b then None else Some line.at)) holds
+        (at_test run.tables.channels line.at (list_any (tells_right run row line) es)))
+
+    -- and it isn't where it calls none.
     pub none_right : All (λ l. is_called line.entry line.at.third l ≡ false) es →
         list_any (tells_right run row line) es ≡ false
     none_right none =
@@ -293,6 +300,13 @@ module _ (run : Run) (row : Row) where
               | inr apart ↦ wrong_for (get_or es k e) (other k e within apart)
             ]) ∙ sym wrong
       ]
+
+-- One more line that doesn't fail.
+pub none_behind : (channels : List Channel) (Fails : Row → Place → Type 0) (lines : List Row) (row : Row)
+    (first : Option Place) → IsFirstFailure channels (Any Fails lines) first → IsFirstFailure channels (Fails row) None →
+    IsFirstFailure channels (Any Fails (lines ++ row ∷ [])) first
+none_behind channels Fails lines row None before one = one_behind channels Fails lines row None None before one
+none_behind channels Fails lines row (Some p) before one = one_behind channels Fails lines row (Some p) None before one
 
 -- No line tells anything.
 pub nothing_told : (run : Run) (l : ChannelEntry) → IsTold run [] l nothing

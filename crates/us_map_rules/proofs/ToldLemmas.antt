@@ -7,11 +7,14 @@ use Rattle.std.proofs.lemmas.List.{drop_all}
 use Rattle.us_flows.specs.Tables.{Tables}
 use Rattle.us_output.proofs.PartLemmas.{all_append}
 use Rattle.us_lawful.specs.Runs.{RoundMap}
-use Rattle.us_lawful.specs.Regions.{Region, map_regions}
+use Rattle.us_codec.specs.Faults.{elements_at}
+use Rattle.us_lawful.specs.Regions.{Region, element_regions, map_regions}
 use Rattle.us_map_rules.specs.MapsReading.{IsMapsOf}
-use Rattle.us_map_rules.specs.Minislots.{IsFirstFailing}
+use Rattle.us_map_rules.specs.Minislots.{AreSideBySide, IsFirstFailing}
+use Rattle.us_map_rules.specs.Pieces.{AreElementsOf}
 use Rattle.us_map_rules.specs.RegionLines.{PlacedRegion}
 use Rattle.us_map_rules.specs.Gathered.{AreGathered, IsFirstBefore, IsFirstWith, lines_of, map_holds, number_holds}
+use Rattle.us_map_rules.proofs.PartLemmas.{same_test}
 
 -- The lines of a MAP: with one more that is of it,
 lines_here : (number : ℕ) (placed : List PlacedRegion) (q : PlacedRegion) → q.map ≡ number →
@@ -50,17 +53,12 @@ one_told f x (Some y) is = rw is refl
 
 -- Tests that say the same have the same first failures.
 
-pub same_failing : (f g : ℕ → Bool) (answer : Option ℕ) → ((at : ℕ) → g at ≡ f at) → IsFirstFailing f answer →
-    IsFirstFailing g answer
-same_failing f g None same first = λ at. same at ∙ first at
-same_failing f g (Some k) same first = (same k ∙ first.0, λ at less. same at ∙ first.1 at less)
-
 same_before : (f g : ℕ → ℕ → Bool) (number : ℕ) (first : Option (ℕ × ℕ)) →
     ((n : ℕ) → n < number → (at : ℕ) → g n at ≡ f n at) → IsFirstBefore f number first → IsFirstBefore g number first
 same_before f g number None same first = λ n less at. same n less at ∙ first n less at
 same_before f g number (Some p) same first = (
   first.0,
-  same_failing (f p.0) (g p.0) (Some p.1) (same p.0 first.0) first.1,
+  same_test (f p.0) (g p.0) (Some p.1) (λ at. sym (same p.0 first.0 at)) first.1,
   λ n less at. same n (omega (arith, less, first.0)) at ∙ first.2 n less at,
 )
 
@@ -77,7 +75,7 @@ with_one f g number None None same before more = λ n less at. elim (cases_lt n 
 ]
 with_one f g number None (Some p) same before more = (
   omega (arith, more.0),
-  subst (λ n. IsFirstFailing (f n) (Some p.1)) (sym more.0) (same_failing g (f number) (Some p.1) same more.1),
+  subst (λ n. IsFirstFailing (f n) (Some p.1)) (sym more.0) (same_test g (f number) (Some p.1) (λ at. sym (same at)) more.1),
   λ n less at. before n (omega (arith, less, more.0)) at,
 )
 
@@ -123,22 +121,24 @@ module _ (t : Tables) (rounds : ℕ) (bytes : List ℕ) (maps : List RoundMap) (
     left = told.left;
   }
 
-  -- the record that begins at `from` has these elements, and ends at `to`
-  pub gathered_closed : (pieces : List Region) (from len : ℕ) (rest : List ℕ) (next : Option (ℕ × ℕ)) →
+  -- the record that begins at `from` has these elements, and ends `len` behind it
+  pub gathered_closed : (elements : List ℕ) (from len : ℕ) (rest : List ℕ) (next : Option (ℕ × ℕ)) →
       number < rounds * length t.channels → rest ≡ drop from bytes → drop from bytes ≡ drop at bytes →
       ((ms : List RoundMap) → IsMapsOf rest ms →
-      IsMapsOf (drop len rest) (drop 1 ms) × (pieces ≡ map_regions (slice_get ms 0))) →
-      IsFirstWith (number_holds t number regions pieces) number first next →
+      IsMapsOf (drop len rest) (drop 1 ms) × AreElementsOf (slice_get ms 0) elements) →
+      (AreSideBySide 0 (element_regions (elements_at elements)) →
+      IsFirstWith (number_holds t number regions (element_regions (elements_at elements))) number first next) →
       AreGathered t rounds bytes maps placed (number + 1) (from + len) [] next
-  gathered_closed pieces from len rest next inside is here reads with =
+  gathered_closed elements from len rest next inside is here reads with =
       let read = reads (drop number maps) (subst (λ bs. IsMapsOf bs (drop number maps)) (sym (is ∙ here)) told.left) in
-      let elements : pieces ≡ map_regions (slice_get maps number) = read.1 ∙ ap map_regions (get_dropped maps number) in
+      let pieces : List Region = element_regions (elements_at elements) in
+      let told_is : pieces ≡ map_regions (slice_get maps number) = read.1.1 ∙ ap map_regions (get_dropped maps number) in
       record {
         within = omega (arith, inside);
         none_later = up_to_next number placed told.none_later;
         kept = sym (no_lines number (number + 1) placed (omega arith) told.none_later);
         judged = with_one (map_holds t maps placed) (number_holds t number regions pieces) number first next
-            (λ at. ap₂ (λ ls ps. number_holds t number ls ps at) (sym told.kept) (sym elements)) told.judged with;
+            (λ at. ap₂ (λ ls ps. number_holds t number ls ps at) (sym told.kept) (sym told_is)) told.judged (with read.1.0);
         left = subst (λ bs. IsMapsOf bs (drop (number + 1) maps)) (ap (drop len) is ∙ drop-drop len from bytes)
             (subst (IsMapsOf (drop len rest)) (drop-drop 1 number maps) read.0);
       }

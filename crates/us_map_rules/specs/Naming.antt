@@ -1,16 +1,30 @@
 -- What a line of a calendar names: an occurrence of an entry.
-use Rattle.std.specs.Prelude.{ℕ, ◌+◌, ◌*◌, ◌/◌, ◌^◌, nat_le, nat_lt, ◌&&◌, Bool, if◌then◌else◌, Option, Some, None}
+use Rattle.std.specs.Prelude.{◌≡◌, ℕ, ◌<◌, ◌+◌, ◌*◌, ◌/◌, ◌^◌, nat_le, nat_lt, ◌&&◌, Bool, if◌then◌else◌, option_map, Option, Some, None}
 use Rattle.us_slots.specs.Times.{Timing, start_of}
+use Rattle.us_flows.specs.Lawful.{AreTables}
+use Rattle.us_flows.specs.Tables.{Tables}
+use Rattle.us_requests.specs.Traces.{TraceAsks}
+use Rattle.us_activity.specs.Activities.{AreMarksOf}
+use Rattle.us_activity.specs.Marks.{Marks}
 use Rattle.us_calendar.specs.Occurrences.{ideal}
 use Rattle.us_output.specs.declared.rows.Row.{Row}
 use Rattle.us_output.specs.declared.rows.Row.TheVariants as rows
 use Rattle.us_lawful.specs.Runs.{Run}
 use Rattle.us_reports.specs.Rows.{is_requested}
+use Rattle.us_reports.specs.declared.place.Place.{Place}
 use Rattle.us_lawful.specs.CalendarLines.{ChannelEntry, is_right_line, is_there, round_quarters, speaks_in}
 use Rattle.us_calendar.specs.Entries.{Entry}
 use Rattle.us_map_rules.specs.declared.naming.CalendarLine.{CalendarLine}
 use Rattle.us_map_rules.specs.declared.windows.Occurrence.{Occurrence}
 use Rattle.us_map_rules.specs.Listed.{is_called}
+
+-- what is kept of a run: who is active when, and the quarter microseconds of a round and of the run
+pub record IsJudged (t : Tables) (v : TraceAsks) (active : Marks) (quarters end : ℕ) : Type 0 where
+  pub tables : AreTables t
+  pub marks : AreMarksOf t v active
+  pub round : quarters ≡ round_quarters t
+  pub run : end ≡ v.rounds * quarters
+  pub few : end < 2 ^ 49
 
 -- numbers of occurrences that are looked at are below this
 abbrev pub numbers : ℕ
@@ -31,6 +45,9 @@ calendar_line (rows.Missed m) = Some (record {
   k = m.k;
 })
 calendar_line _ = None
+
+abbrev pub calendar_place : Row → Option Place
+calendar_place row = option_map (λ line. line.at) (calendar_line row)
 
 -- the number of the occurrence that it names of an entry
 abbrev pub number_in : Entry → CalendarLine → ℕ

@@ -1,20 +1,19 @@
-ghost use Rattle.std.specs.Prelude.{◌≡◌, ◌++◌, ◌∷◌, [], true, List, length, IfOk, OnOk};
+ghost use Rattle.std.specs.Prelude.{◌≡◌, ◌≢◌, ◌++◌, ◌∷◌, [], true, List, length, None, IfOk, OnOk, if◌then◌else◌};
 ghost use Rattle.us_output.specs.declared.rows.Row.{Row as ReportRow};
 ghost use Rattle.us_lawful.specs.Runs.{run_in, Judged};
 ghost use Rattle.us_lawful.specs.CalendarLines.{calendar_lines_hold};
 ghost use Rattle.us_reports.specs.Breaches.{Any, IsFirstBreach, IsFirstFailure};
 ghost use Rattle.us_map_rules.specs.Listed.{AreListed};
 ghost use Rattle.us_map_rules.specs.Failures.{LineFails};
+ghost use Rattle.us_map_rules.specs.Naming.{calendar_line, calendar_place};
 ghost use Rattle.us_map_rules.specs.Told as spec;
 
-use crate::closings::unless;
 use crate::listed::{ChannelEntry, Listed};
-use crate::naming::calendar_line;
+use crate::naming::{calendar_line, calendar_place};
 use crate::runs::JudgedRun;
 use crate::told::ToldEntry;
 use std::alloc::{AllocError, Global};
 use std::marker::Model;
-use us_activity::Activities;
 use us_flows::Config;
 use us_reports::{Place, earlier};
 use us_requests::Trace;
@@ -53,18 +52,14 @@ impl<'a> CalendarLines<'a> {
         ensures run { IfOk result (λ c. c.run ≡ run_in config.now trace.now) }
         ensures told { IfOk result (spec.AreTold []) }
     {
-        let activities = Activities::of(alloc, config, trace)?;
+        let run = JudgedRun::of(alloc, config, trace)?;
         let listed = Listed::of(alloc, config)?;
         let mut told = Vec::new(alloc);
         for _ in 0..listed.entries().len() {
             told.push(ToldEntry::new(alloc))?;
         }
         Ok(CalendarLines {
-            run: JudgedRun {
-                config,
-                trace,
-                activities,
-            },
+            run,
             listed,
             told,
             first: None,
@@ -72,13 +67,17 @@ impl<'a> CalendarLines<'a> {
     }
 
     /// A line more. After an error it isn't known what is told.
+    #[inline(always)]
     pub fn take(&mut self, row: &Row) -> Result<(), NoMemory>
         ensures run { self.new.run ≡ self.old.run }
         ensures told { OnOk result ((lines : List ReportRow) → spec.AreTold lines self.old →
             spec.AreTold (lines ++ row.now ∷ []) self.new) }
     {
-        let breach = line_breach(&self.run, &self.listed, &mut self.told, row)?;
-        self.first = earlier(self.run.channels(), self.first, breach);
+        let right = take_line(&self.run, &self.listed, &mut self.told, row)?;
+        if right {
+            return Ok(());
+        }
+        self.first = earlier(self.run.channels(), self.first, calendar_place(row));
         Ok(())
     }
 
@@ -93,29 +92,54 @@ impl<'a> CalendarLines<'a> {
     }
 }
 
-/// A line more. Where it is, if it isn't right by itself.
-fn line_breach(
+/// A line more. Whether it is right by itself. Most lines of many reports are of requests, and
+/// these go no further.
+#[inline(always)]
+fn take_line(
     run: &JudgedRun<'_>,
     listed: &Listed,
     told: &mut Vec<ToldEntry>,
     row: &Row,
-) -> Result<Option<Place>, AllocError>
+) -> Result<bool, AllocError>
     requires listed { AreListed run.now.tables listed.now }
     requires long { length told.old.items ≡ length listed.now }
     ensures long { length told.new.items ≡ length listed.now }
     ensures told { OnOk result ((lines : List ReportRow) → spec.AreToldOf run.now lines listed.now told.old.items →
         spec.AreToldOf run.now (lines ++ row.now ∷ []) listed.now told.new.items) }
-    ensures first { IfOk result (IsFirstFailure run.now.tables.channels (LineFails run.now listed.now row.now)) }
+    ensures first { IfOk result (λ right. IsFirstFailure run.now.tables.channels (LineFails run.now listed.now row.now)
+        (if right then None else calendar_place row.now)) }
+{
+    match calendar_line(row) {
+        Some(_) => take_calendar_line(run, listed, told, row),
+        None => Ok(true),
+    }
+}
+
+/// The same of a line of a calendar. What it names is asked for anew: that takes fewer steps than handing it on.
+#[inline(never)]
+fn take_calendar_line(
+    run: &JudgedRun<'_>,
+    listed: &Listed,
+    told: &mut Vec<ToldEntry>,
+    row: &Row,
+) -> Result<bool, AllocError>
+    requires listed { AreListed run.now.tables listed.now }
+    requires long { length told.old.items ≡ length listed.now }
+    requires line { calendar_line row.now ≢ None }
+    ensures long { length told.new.items ≡ length listed.now }
+    ensures told { OnOk result ((lines : List ReportRow) → spec.AreToldOf run.now lines listed.now told.old.items →
+        spec.AreToldOf run.now (lines ++ row.now ∷ []) listed.now told.new.items) }
+    ensures first { IfOk result (λ right. IsFirstFailure run.now.tables.channels (LineFails run.now listed.now row.now)
+        (if right then None else calendar_place row.now)) }
 {
     let Some(line) = calendar_line(row) else {
-        return Ok(None);
+        unreachable!()
     };
     let Some(place) = listed.called(line.entry, line.at.third) else {
-        return Ok(Some(line.at));
+        return Ok(false);
     };
-    let entries = listed.entries();
-    let right = told[place].take(run, &entries[place], line, row)?;
-    Ok(unless(right, line.at))
+    let right = told[place].take(run, &listed.entries()[place], line, row)?;
+    Ok(right)
 }
 
 /// The first place at which an entry's occurrences fail.

@@ -7,8 +7,8 @@ ghost use Rattle.us_map_rules.specs.MapsReading.{IsMapsOf};
 ghost use Rattle.us_map_rules.specs.RegionLines.{PlacedRegion, number_behind, placed_line};
 ghost use Rattle.us_map_rules.specs.Gathered.{AreTold, IsPlaceIn, IsStateOf, IsTaken, is_told};
 
-use crate::map_regions::first_with;
-use crate::pieces::next_pieces;
+use crate::map_regions::keep_first;
+use crate::pieces::first_elements;
 use crate::region_lines::{map_at, place_told, region_of};
 use crate::regions::Region;
 use std::alloc::Global;
@@ -39,8 +39,8 @@ pub struct MapRegions {
     at: usize,
     /// The minislots of its lines.
     regions: Vec<Region>,
-    /// Room for its elements.
-    pieces: Vec<Region>,
+    /// The place of its channel in the table, where that of a line is looked for first.
+    near: usize,
     /// Of the MAPs before it, the number of the first that has a minislot that isn't what it must be, and that minislot.
     first: Option<(u64, u64)>,
 }
@@ -55,12 +55,13 @@ impl MapRegions {
             number: 0,
             at: 0,
             regions: Vec::new(alloc),
-            pieces: Vec::new(alloc),
+            near: 0,
             first: None,
         }
     }
 
     /// Tells a line more. One that comes too late changes nothing. After an error it isn't known what is told.
+    #[inline(always)]
     pub fn take(
         &mut self,
         config: &Config,
@@ -79,7 +80,7 @@ impl MapRegions {
         let Some(place) = place_told(line) else {
             return Ok(Taken::Told);
         };
-        let near = (self.number % config.channels().len() as u64) as usize;
+        let near = self.near;
         let Some(map) = map_at(config, trace.rounds(), near, place.round, place.channel) else {
             return Ok(Taken::Lacked(place));
         };
@@ -94,6 +95,7 @@ impl MapRegions {
     }
 
     /// Tells the minislots of a line more, which is for the MAP of this number.
+    #[inline(always)]
     fn put(
         &mut self,
         config: &Config,
@@ -114,8 +116,24 @@ impl MapRegions {
         Ok(())
     }
 
-    /// Judges the MAPs before this one.
+    /// Judges the MAPs before this one. Each line asks for it, and mostly there is none.
+    #[inline(always)]
     fn close_before(&mut self, config: &Config, file: &[u8], number: u64) -> Result<(), NoMemory>
+        ensures number { OnOk result (self.old.number ≤ number → self.new.number ≡ number) }
+        ensures told { OnOk result ((rounds : ℕ) (maps : List RoundMap) (placed : List PlacedRegion) →
+            number ≤ rounds * length config.now.channels →
+            IsStateOf config.now rounds file.now maps placed self.old →
+            IsStateOf config.now rounds file.now maps placed self.new) }
+    {
+        if self.number < number {
+            self.close_until(config, file, number)?;
+        }
+        Ok(())
+    }
+
+    /// The same, where there are some.
+    #[inline(never)]
+    fn close_until(&mut self, config: &Config, file: &[u8], number: u64) -> Result<(), NoMemory>
         ensures number { OnOk result (self.old.number ≤ number → self.new.number ≡ number) }
         ensures told { OnOk result ((rounds : ℕ) (maps : List RoundMap) (placed : List PlacedRegion) →
             number ≤ rounds * length config.now.channels →
@@ -129,6 +147,7 @@ impl MapRegions {
     }
 
     /// Judges the MAP whose lines came, and goes on to the next one.
+    #[inline(always)]
     fn close(&mut self, config: &Config, file: &[u8]) -> Result<(), NoMemory>
         requires { self.old.number + 1 < 2 ^ 64 }
         ensures number { OnOk result (self.new.number ≡ self.old.number + 1) }
@@ -138,11 +157,12 @@ impl MapRegions {
             IsStateOf config.now rounds file.now maps placed self.new) }
     {
         let at = self.at.min(file.len());
-        let len = next_pieces(&mut self.pieces, &file[at..])?;
+        let (elements, len) = first_elements(&file[at..]);
         let regions = &mut self.regions;
-        self.first = first_with(self.first, config, self.number, regions, &self.pieces)?;
+        keep_first(&mut self.first, config, self.number, regions, elements)?;
         self.regions.clear();
         self.number += 1;
+        self.near = next_place(self.near, config.channels().len());
         self.at = at + len;
         Ok(())
     }
@@ -167,6 +187,12 @@ impl MapRegions {
             None => Ok(None),
         }
     }
+}
+
+/// The place behind this one in a table of so many, or the first one.
+fn next_place(place: usize, count: usize) -> usize {
+    let next = place.wrapping_add(1);
+    if next < count { next } else { 0 }
 }
 
 /// A minislot of the MAP of this number.

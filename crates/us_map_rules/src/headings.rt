@@ -17,6 +17,7 @@ use us_requests::Trace;
 /// The first MAP of a maps file that doesn't say of itself what the MAP of its number in the run must say, that is missing, or
 /// that is one too many. Its number, from 0, is the third number of the place. The error is the first record that is none:
 /// one that is cut, or whose body isn't in the grammar. All records are looked at before any MAP is answered.
+#[inline(never)]
 pub fn headings_breach(
     config: &Config,
     trace: &Trace,

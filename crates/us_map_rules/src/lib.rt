@@ -40,11 +40,11 @@ mod headings;
 // The minislots of MAPs: side by side with one owner,
 mod regions;
 
-// the first minislot of a MAP that isn't what it must be,
-mod minislots;
-
 // the elements of a MAP as minislots,
 mod pieces;
+
+// the first minislot of a MAP that isn't what it must be,
+mod minislots;
 
 // the rounds, channels and MAPs that lines are of,
 mod region_lines;

@@ -34,7 +34,7 @@ impl Model for ChannelEntry {
 pub(crate) struct Listed {
     entries: Vec<ChannelEntry>,
     // by the keys of entries
-    places: Vec<Option<usize>>,
+    places: Vec<Option<u16>>,
 }
 
 impl Model for Listed {
@@ -67,23 +67,25 @@ impl Listed {
         ensures { spec.IsPlace word id self.now result }
     {
         let key = key_called(word, id)?;
-        place_at(&self.places, key)
+        let place = place_at(&self.places, key)?;
+        Some(usize::from(place))
     }
 }
 
 /// The places of entries by their keys.
-fn places_of(alloc: Global, entries: &[ChannelEntry]) -> Result<Vec<Option<usize>>, AllocError>
+fn places_of(alloc: Global, entries: &[ChannelEntry]) -> Result<Vec<Option<u16>>, AllocError>
+    requires { length entries.now < 2 ^ 16 }
     ensures { IfOk result (λ places. spec.ArePlaces entries.now (length entries.now) places.items) }
 {
     let mut places = Vec::new(alloc);
     for (place, listed) in entries.iter().enumerate() {
-        put(&mut places, key_of(&listed.entry), place)?;
+        put(&mut places, key_of(&listed.entry), place as u16)?;
     }
     Ok(places)
 }
 
 /// The place of this key, if it has one.
-fn place_at(places: &[Option<usize>], key: u128) -> Option<usize>
+fn place_at(places: &[Option<u16>], key: u128) -> Option<u16>
     ensures { result ≡ slice_index_or places.now key None }
 {
     if key < places.len() as u128 {
@@ -93,7 +95,7 @@ fn place_at(places: &[Option<usize>], key: u128) -> Option<usize>
 }
 
 /// Gives a key a place.
-fn put(places: &mut Vec<Option<usize>>, key: usize, place: usize) -> Result<(), AllocError>
+fn put(places: &mut Vec<Option<u16>>, key: usize, place: u16) -> Result<(), AllocError>
     requires { key < 2 ^ 19 }
     ensures { OnOk result ((other : ℕ) → slice_index_or places.new.items other None ≡
         (if key == other then Some place else slice_index_or places.old.items other None)) }
@@ -104,7 +106,7 @@ fn put(places: &mut Vec<Option<usize>>, key: usize, place: usize) -> Result<(), 
 }
 
 /// Makes room for so many keys, which have no places.
-fn grow(places: &mut Vec<Option<usize>>, count: usize) -> Result<(), AllocError>
+fn grow(places: &mut Vec<Option<u16>>, count: usize) -> Result<(), AllocError>
     ensures same { OnOk result ((key : ℕ) →
         slice_index_or places.new.items key None ≡ slice_index_or places.old.items key None) }
     ensures long { OnOk result (count ≤ length places.new.items) }
@@ -134,20 +136,31 @@ fn key_of(entry: &Entry) -> usize
 fn key_called(word: EntryWord, id: u64) -> Option<u128>
     ensures { result ≡ option_map (λ rank. id * 5 + rank) (spec.rank_called word) }
 {
-    let rank = match word {
+    let rank = rank_called(word);
+    if rank == KINDS {
+        return None;
+    }
+    Some(u128::from(id) * u128::from(KINDS) + u128::from(rank))
+}
+
+/// The rank of the kind that a word calls, and behind all ranks that of a request.
+fn rank_called(word: EntryWord) -> u8
+    ensures { spec.rank_called word ≡ (if result == 5 then None else Some result) }
+{
+    match word {
         EntryWord::Unsolicited => 0,
         EntryWord::Activity => 1,
         EntryWord::RealTimePoll => 2,
         EntryWord::NonRealTimePoll => 3,
         EntryWord::Station => 4,
-        EntryWord::Requested => return None,
-    };
-    Some(u128::from(id) * u128::from(KINDS) + rank)
+        EntryWord::Requested => KINDS,
+    }
 }
 
 /// The entries of all channels, channel by channel.
 fn all_entries(alloc: Global, config: &Config) -> Result<Vec<ChannelEntry>, NoMemory>
     ensures value { IfOk result (λ entries. entries.items ≡ lawful.channel_entries config.now) }
+    ensures few { IfOk result (λ entries. length entries.items < 2 ^ 16) }
     ensures lawful { AreTables config.now }
 {
     let mut entries = Vec::new(alloc);
@@ -165,7 +178,8 @@ fn push_entries(
     entries: &mut Vec<ChannelEntry>,
 ) -> Result<(), NoMemory>
     requires { IsChannel config.now channel.now }
-    ensures { OnOk result (entries.new.items ≡ entries.old.items
+    ensures few { OnOk result (length entries.new.items ≤ length entries.old.items + 1280) }
+    ensures value { OnOk result (entries.new.items ≡ entries.old.items
         ++ map (λ e. record { channel = channel.now; entry = e }) (calendar.entries config.now channel.now)) }
 {
     for entry in &entries_of(alloc, config, channel)? {

@@ -1,12 +1,17 @@
-ghost use Rattle.std.specs.Prelude.{◌≡◌, ℕ, true, ◌==◌, nat_lt, ◌||◌, IfSome, ◌<◌, ◌∷◌};
+ghost use Rattle.std.specs.Prelude.{◌≡◌, ℕ, true, ◌==◌, nat_lt, ◌||◌, IfSome, IfOk, ◌<◌, ◌∷◌};
 ghost use Rattle.std.specs.List.{list_all, list_any};
+ghost use Rattle.us_codec.specs.Faults.{elements_at};
 ghost use Rattle.us_lawful.specs.Regions as spec;
-ghost use Rattle.us_lawful.specs.Regions.{Region, minislot_holds};
+ghost use Rattle.us_lawful.specs.Regions.{element_regions, minislot_holds};
 ghost use Rattle.us_map_rules.specs.Minislots;
 ghost use Rattle.us_map_rules.specs.Minislots.{IsFirstFailing, AreByStart, AreSideBySide, IsBehindGap};
+ghost use Rattle.us_map_rules.specs.Pieces.{pieces_from};
 
+use crate::elements::{Element, first_element};
+use crate::pieces::{next_piece, pieces_of};
 use crate::regions::{BROADCAST, REQUEST, Region};
 use us_flows::Channel;
+use us_slots::NoMemory;
 
 /// The lesser of two numbers, where there are any.
 fn lesser(a: Option<u64>, b: Option<u64>) -> Option<u64>
@@ -149,83 +154,115 @@ fn first_outside(len: u64, regions: &[Region]) -> Option<u64>
     }
 }
 
-/// Elements without the gap from a minislot to another one before them, if that isn't there, `None`.
+/// The first element behind the gap before a minislot, and the bytes behind it; `None` where the gap isn't there.
 fn behind_gap<'a>(
     channel: &Channel,
-    from: u128,
     to: u64,
-    pieces: &'a [Region],
-) -> Option<&'a [Region]>
-    ensures { IfSome result (λ rest. IsBehindGap channel.now from to pieces.now rest.now) }
+    element: Element,
+    behind: &'a [u8],
+) -> Option<(Element, &'a [u8])>
+    ensures { IfSome result (λ next. (next.0.offset ≡ to)
+        × IsBehindGap channel.now element.offset to (pieces_from element behind.now) (pieces_from next.0 next.1.now)) }
 {
-    if from == u128::from(to) {
-        return Some(pieces);
+    if u64::from(element.offset) == to {
+        return Some((element, behind));
     }
-    let (piece, rest) = pieces.split_first()?;
-    let is_there = u128::from(piece.start) == from
-        && piece.end() == u128::from(to)
-        && piece.slots > 0
-        && is_gap_element(channel, *piece);
-    if is_there { Some(rest) } else { None }
+    let Some((piece, next)) = next_piece(element, behind) else {
+        return None;
+    };
+    let is_there = piece.slots > 0
+        && u64::from(next.0.offset) == to
+        && is_gap_element(channel, piece);
+    if is_there { Some(next) } else { None }
 }
 
-/// Elements without that of a region before them, if that isn't there, `None`.
-fn behind_region(region: Region, pieces: &[Region]) -> Option<&[Region]>
-    ensures { IfSome result (λ rest. (0 < region.slots) × (pieces.now ≡ region ∷ rest.now)) }
+/// The same behind the element of a region.
+fn behind_region(region: Region, element: Element, behind: &[u8]) -> Option<(Element, &[u8])>
+    ensures { IfSome result (λ next. (next.0.offset ≡ spec.end_of region) × (0 < region.slots)
+        × (pieces_from element behind.now ≡ region ∷ pieces_from next.0 next.1.now)) }
 {
-    let (piece, rest) = pieces.split_first()?;
+    let Some((piece, next)) = next_piece(element, behind) else {
+        return None;
+    };
     if region.slots > 0 && piece.is_same(region) {
-        Some(rest)
+        Some(next)
     } else {
         None
     }
 }
 
-/// Whether the elements are these regions one after another and the gaps between them. So they are in each lawful MAP.
-fn are_followed(channel: &Channel, len: u64, regions: &[Region], pieces: &[Region]) -> bool
-    ensures { result ≡ true → (at : ℕ) → minislot_holds channel.now len regions.now pieces.now at ≡ true }
+/// Whether the elements are these regions one after another and the gaps between them. So they are in each lawful MAP whose
+/// lines stand by start.
+#[inline(always)]
+fn are_followed(channel: &Channel, len: u64, regions: &[Region], elements: &[u8]) -> bool
+    ensures { result ≡ true → (at : ℕ) →
+        minislot_holds channel.now len regions.now (element_regions (elements_at elements.now)) at ≡ true }
 {
-    let mut from = 0;
-    let mut rest = pieces;
-    for region in regions {
-        let Some(behind) = behind_gap(channel, from, region.start, rest) else {
-            return false;
-        };
-        let Some(more) = behind_region(*region, behind) else {
-            return false;
-        };
-        from = region.end();
-        rest = more;
+    let Some(first) = first_element(elements) else {
+        return false;
+    };
+    if first.0.offset() > 0 {
+        return false;
     }
-    matches!(behind_gap(channel, from, len, rest), Some([]))
+    let mut next = first;
+    for region in regions {
+        let Some(held) = behind_gap(channel, region.start, next.0, next.1) else {
+            return false;
+        };
+        let Some(behind) = behind_region(*region, held.0, held.1) else {
+            return false;
+        };
+        next = behind;
+    }
+    match behind_gap(channel, len, next.0, next.1) {
+        Some(end) => next_piece(end.0, end.1).is_none(),
+        None => false,
+    }
 }
 
-/// The first minislot that isn't what it must be, found by parts.
+/// The first minislot that isn't what it must be, found by parts. The regions stand by start.
 #[tactic(auto, using(crate::proofs::PartLemmas::minislot_first))]
 fn first_by_parts(channel: &Channel, len: u64, regions: &[Region], pieces: &[Region]) -> Option<u64>
-    requires ordered { AreByStart regions.now }
-    requires side { AreSideBySide 0 pieces.now }
-    ensures { IsFirstFailing (minislot_holds channel.now len regions.now pieces.now) result }
+    requires { AreByStart regions.now }
+    ensures { AreSideBySide 0 pieces.now → IsFirstFailing (minislot_holds channel.now len regions.now pieces.now) result }
 {
     let of_regions = lesser(first_empty(regions), first_shared(len, regions));
     let wrong = first_wrong(channel, len, regions, pieces);
     lesser(of_regions, lesser(wrong, first_outside(len, regions)))
 }
 
-/// The first minislot of a MAP of length `len` that isn't what it must be. These regions must be there, by start, and
-/// these elements are, side by side.
+/// The first minislot of a MAP of length `len` that isn't what it must be. These regions must be there, and the elements are
+/// those that these bytes spell, if they stand side by side.
 pub(crate) fn first_failing(
     channel: &Channel,
     len: u64,
-    regions: &[Region],
-    pieces: &[Region],
-) -> Option<u64>
-    requires ordered { AreByStart regions.now }
-    requires side { AreSideBySide 0 pieces.now }
-    ensures { IsFirstFailing (minislot_holds channel.now len regions.now pieces.now) result }
+    regions: &mut Vec<Region>,
+    elements: &[u8],
+) -> Result<Option<u64>, NoMemory>
+    ensures { IfOk result (λ first. AreSideBySide 0 (element_regions (elements_at elements.now)) →
+        IsFirstFailing (minislot_holds channel.now len regions.old.items (element_regions (elements_at elements.now))) first) }
 {
-    if are_followed(channel, len, regions, pieces) {
-        return None;
+    if are_followed(channel, len, regions, elements) {
+        return Ok(None);
     }
-    first_by_parts(channel, len, regions, pieces)
+    first_in_order(channel, len, regions, elements)
+}
+
+/// The same where the elements aren't the regions as they come: these are put by start.
+#[inline(never)]
+fn first_in_order(
+    channel: &Channel,
+    len: u64,
+    regions: &mut Vec<Region>,
+    elements: &[u8],
+) -> Result<Option<u64>, NoMemory>
+    ensures { IfOk result (λ first. AreSideBySide 0 (element_regions (elements_at elements.now)) →
+        IsFirstFailing (minislot_holds channel.now len regions.old.items (element_regions (elements_at elements.now))) first) }
+{
+    regions.sort_unstable_by_key(|region| region.start);
+    if are_followed(channel, len, regions, elements) {
+        return Ok(None);
+    }
+    let pieces = pieces_of(*regions.allocator(), elements)?;
+    Ok(first_by_parts(channel, len, regions, &pieces))
 }

@@ -51,6 +51,14 @@ pub(crate) fn calendar_line(row: &Row) -> Option<CalendarLine>
     }
 }
 
+/// Where a line of a calendar is; `None` for other lines.
+pub(crate) fn calendar_place(row: &Row) -> Option<Place>
+    ensures { result ≡ spec.calendar_place row.now }
+{
+    let line = calendar_line(row)?;
+    Some(line.at)
+}
+
 /// The occurrence that a line names of the entry that it calls; `None` where it isn't there. It begins before the run ends,
 /// and of an interval all come while the flow is active, and the first alone while it is silent.
 pub(crate) fn occurrence_told(
@@ -62,6 +70,7 @@ pub(crate) fn occurrence_told(
     requires called { is_called line.entry line.at.third of.now ≡ true }
     ensures value { result ≡ option_map (spec.occurrence run.now of.now.entry) (spec.number_told run.now of.now line) }
     ensures few { IfSome result (λ occurrence. occurrence.number + 1 < 2 ^ 64) }
+    ensures before { IfSome result (λ occurrence. occurrence.ideal < 2 ^ 49) }
 {
     let entry = of.entry;
     let grants = u64::from(entry.grants);

@@ -1,22 +1,27 @@
-ghost use Rattle.std.specs.Prelude.{◌≡◌, ◌*◌, ◌^◌, ◌<◌, Contains};
+ghost use Rattle.std.specs.Prelude.{◌≡◌, ◌*◌, ◌^◌, ◌<◌, Contains, IfOk};
 ghost use Rattle.us_flows.specs.Lawful.{AreTables};
 ghost use Rattle.us_lawful.specs.Runs.{Run, run_in};
 ghost use Rattle.us_lawful.specs.CalendarLines as lawful;
-ghost use Rattle.us_activity.specs.Activities.{AreMarksOf};
+ghost use Rattle.us_map_rules.specs.Naming.{IsJudged};
 
 use crate::listed::ChannelEntry;
+use std::alloc::Global;
 use std::marker::Model;
 use us_activity::Activities;
 use us_flows::{Channel, Config};
 use us_requests::Trace;
-use us_slots::QUARTERS_PER_TICK;
+use us_slots::{NoMemory, QUARTERS_PER_TICK};
 
 /// The run that is judged: its tables, its trace, and who is active in which of its rounds.
 #[derive(Drop)]
 pub(crate) struct JudgedRun<'a> {
-    pub(crate) config: &'a Config,
-    pub(crate) trace: &'a Trace,
-    pub(crate) activities: Activities,
+    config: &'a Config,
+    trace: &'a Trace,
+    activities: Activities,
+    /// The quarter microseconds of a round,
+    round_quarters: u64,
+    /// and of the run.
+    end: u64,
 }
 
 impl<'a> Model for JudgedRun<'a> {
@@ -24,10 +29,29 @@ impl<'a> Model for JudgedRun<'a> {
 
     ghost view = { λ r. run_in r.config.now r.trace.now };
 
-    ghost invariant = { λ r. AreMarksOf r.config.now r.trace.now r.activities };
+    ghost invariant = { λ r. IsJudged r.config.now r.trace.now r.activities r.round_quarters r.end };
 }
 
 impl<'a> JudgedRun<'a> {
+    /// The run of a configuration and a trace.
+    pub(crate) fn of(
+        alloc: Global,
+        config: &'a Config,
+        trace: &'a Trace,
+    ) -> Result<JudgedRun<'a>, NoMemory>
+        ensures { IfOk result (λ r. r ≡ run_in config.now trace.now) }
+    {
+        let activities = Activities::of(alloc, config, trace)?;
+        let round_quarters = QUARTERS_PER_TICK * u64::from(config.round_ticks());
+        Ok(JudgedRun {
+            config,
+            trace,
+            activities,
+            round_quarters,
+            end: u64::from(trace.rounds()) * round_quarters,
+        })
+    }
+
     /// The channels of the table.
     pub(crate) fn channels(&self) -> &[Channel]
         ensures { result.now ≡ self.now.tables.channels }
@@ -40,7 +64,7 @@ impl<'a> JudgedRun<'a> {
         ensures value { result ≡ lawful.round_quarters self.now.tables }
         ensures lawful { AreTables self.now.tables }
     {
-        QUARTERS_PER_TICK * u64::from(self.config.round_ticks())
+        self.round_quarters
     }
 
     /// When the run ends, in quarter microseconds.
@@ -48,7 +72,7 @@ impl<'a> JudgedRun<'a> {
         ensures value { result ≡ self.now.rounds * lawful.round_quarters self.now.tables }
         ensures few { result < 2 ^ 49 }
     {
-        u64::from(self.trace.rounds()) * self.round_quarters()
+        self.end
     }
 
     /// Whether the flow of an entry is active in the round that holds a time, in quarter microseconds.

@@ -1,4 +1,5 @@
-ghost use Rattle.std.specs.Prelude.{◌≡◌, ◌+◌, ◌^◌, ◌<◌, Some, true, List, Contains, IfOk, OnOk};
+ghost use Rattle.std.specs.Prelude.{◌≡◌, ◌++◌, ◌+◌, ◌^◌, ◌<◌, Some, true, List, Contains, option_map, IfOk, OnOk};
+ghost use Rattle.std.specs.Option.{option_to_list};
 ghost use Rattle.us_output.specs.declared.rows.Row.{Row as ReportRow};
 ghost use Rattle.us_lawful.specs.CalendarLines.{channel_entries};
 ghost use Rattle.us_reports.specs.Breaches.{IsFirstFailure};
@@ -9,9 +10,9 @@ ghost use Rattle.us_map_rules.specs.Told as spec;
 
 use crate::closings::{closing_breach, coming, doubled_breach, put_in_order};
 use crate::listed::ChannelEntry;
-use crate::naming::{CalendarLine, occurrence_told};
+use crate::naming::{CalendarLine, calendar_place, occurrence_told};
 use crate::runs::JudgedRun;
-use crate::windows::{closing, is_right};
+use crate::windows::{closes, is_right};
 use std::alloc::{AllocError, Global};
 use std::marker::Model;
 use us_reports::{Place, earlier};
@@ -73,13 +74,23 @@ impl ToldEntry {
             return Ok(false);
         };
         self.name(run, of, occurrence.number)?;
-        if closing(run, &of.entry, u128::from(occurrence.ideal)).is_none() {
-            self.open_lines.push(OpenLine {
-                number: occurrence.number,
-                at: line.at,
-            })?;
+        if !closes(run, &of.entry, occurrence.ideal) {
+            self.keep_open(occurrence.number, row)?;
         }
         Ok(is_right(run, of, occurrence, row))
+    }
+
+    /// A line names this occurrence, which is still open as the run ends.
+    fn keep_open(&mut self, number: u64, row: &Row) -> Result<(), AllocError>
+        ensures { OnOk result (self.new ≡ record self.old {
+          open_lines = self.old.open_lines
+              ++ option_to_list (option_map (λ at. record { number = number; at = at }) (naming.calendar_place row.now));
+        }) }
+    {
+        if let Some(at) = calendar_place(row) {
+            self.open_lines.push(OpenLine { number, at })?;
+        }
+        Ok(())
     }
 
     /// A line more names this occurrence, which comes. Lines mostly name them one behind another, and then none is kept.

@@ -1,4 +1,4 @@
-ghost use Rattle.std.specs.Prelude.{◌≡◌, ◌+◌, ◌*◌, ◌^◌, ◌<◌, Contains};
+ghost use Rattle.std.specs.Prelude.{◌≡◌, ◌+◌, ◌*◌, ◌^◌, ◌<◌, nat_lt, Contains};
 ghost use Rattle.us_flows.specs.Tables.{map_len};
 ghost use Rattle.us_calendar.specs.Occurrences as calendar;
 ghost use Rattle.us_output.specs.declared.rows.Row.TheVariants as rows;
@@ -11,6 +11,10 @@ use crate::runs::JudgedRun;
 use us_calendar::Entry;
 use us_round::{Grant, Row};
 use us_slots::QUARTERS_PER_TICK;
+
+/// What begins in so late a round, or so many minislots behind the beginning of one, is behind all windows, which end before
+/// 2^50 quarter microseconds; and times of less than this fit into 64 bits.
+const LATE: u64 = 1 << 46;
 
 /// An occurrence of an entry that is ideal before the run ends.
 #[derive(Clone, Copy)]
@@ -36,6 +40,14 @@ pub(crate) fn closing(run: &JudgedRun<'_>, entry: &Entry, ideal: u128) -> Option
     Some(end as u64 / run.round_quarters())
 }
 
+/// Whether a window of an entry closes in the run that begins before that ends.
+pub(crate) fn closes(run: &JudgedRun<'_>, entry: &Entry, ideal: u64) -> bool
+    requires { ideal < 2 ^ 49 }
+    ensures { result ≡ nat_lt (ideal + entry.now.jitter) (run.now.rounds * lawful.round_quarters run.now.tables) }
+{
+    ideal + u64::from(entry.jitter) < run.end()
+}
+
 /// Whether a line is right for an occurrence. A missed one is told on the entry's channel, in the round in which its
 /// window closes.
 pub(crate) fn is_right(
@@ -46,16 +58,17 @@ pub(crate) fn is_right(
 ) -> bool
     requires entry { Contains (lawful.channel_entries run.now.tables) of.now }
     requires occurrence { occurrence ≡ spec.occurrence run.now of.now.entry occurrence.number }
+    requires before { occurrence.ideal < 2 ^ 49 }
     ensures { result ≡ lawful.is_right_line run.now of.now occurrence.number row.now }
 {
-    match row {
-        Row::Granted(grant) => is_right_grant(run, of, occurrence, grant),
-        Row::Missed(missed) => {
-            missed.channel == u64::from(of.channel.id)
-                && closing(run, &of.entry, u128::from(occurrence.ideal)) == Some(missed.round)
-        }
-        Row::Final(_) | Row::Activity(_) | Row::Counts(_) => false,
+    if let Row::Granted(grant) = row {
+        return is_right_grant(run, of, occurrence, grant);
     }
+    let Row::Missed(missed) = row else {
+        return false;
+    };
+    missed.channel == u64::from(of.channel.id)
+        && closing(run, &of.entry, u128::from(occurrence.ideal)) == Some(missed.round)
 }
 
 /// Whether a grant is that of an occurrence: it is on the entry's channel, starts in its window, has the SID, the IUC and
@@ -68,6 +81,7 @@ fn is_right_grant(
 ) -> bool
     requires entry { Contains (lawful.channel_entries run.now.tables) of.now }
     requires occurrence { occurrence ≡ spec.occurrence run.now of.now.entry occurrence.number }
+    requires before { occurrence.ideal < 2 ^ 49 }
     ensures { result ≡ lawful.is_right_line run.now of.now occurrence.number (rows.Granted grant.now) }
 {
     let entry = of.entry;
@@ -82,20 +96,19 @@ fn is_right_grant(
 
 /// Whether a grant starts in a window of an entry that begins at a time.
 fn starts_within(run: &JudgedRun<'_>, of: &ChannelEntry, ideal: u64, grant: &Grant) -> bool
-    requires { Contains (lawful.channel_entries run.now.tables) of.now }
+    requires entry { Contains (lawful.channel_entries run.now.tables) of.now }
+    requires before { ideal < 2 ^ 49 }
     ensures { result ≡ spec.starts_from of.now.channel.bursts.time of.now.entry ideal
         (grant.now.round * map_len run.now.tables of.now.channel + grant.now.start) }
 {
-    let channel = of.channel;
-    let entry = of.entry;
-    // Asked for what it tells of the tables: that their channels are lawful.
-    let _ = run.config.round_ticks();
-    let len = u128::from(run.config.map_len(&channel));
-    let minislot = u128::from(grant.round) * len + u128::from(grant.start);
-    let ticks = u128::from(channel.bursts.time().minislot_ticks());
-    let start = u128::from(QUARTERS_PER_TICK) * (minislot * ticks);
-    let ideal = u128::from(ideal);
-    ideal <= start && start <= ideal + u128::from(entry.jitter)
+    let quarters = run.round_quarters();
+    let last = ideal + u64::from(of.entry.jitter);
+    if grant.round >= LATE || grant.start >= LATE {
+        return false;
+    }
+    let ticks = u64::from(of.channel.bursts.time().minislot_ticks());
+    let start = grant.round * quarters + QUARTERS_PER_TICK * (grant.start * ticks);
+    ideal <= start && start <= last
 }
 
 /// When an occurrence of an entry is ideal, in quarter microseconds.

@@ -7,7 +7,7 @@ use Rattle.us_check.proofs.checking.check.Goals as goal
 
 pub returns-in-None : goal.returns-in-None
 returns-in-None c =
-    let maps = rw c.in_default.is at c.maps_verdict.ensures in
+    let maps = rw c.in_default.is at c.maps_breach.ensures in
     let all = c.in_ok-lines_breach.ensures maps.0 maps.1 maps.2 in
     let holds = rw c.in-None.is at all.2 in
     record {
@@ -31,10 +31,16 @@ returns-in-None c =
 
 pub returns-in-Some-2 : goal.returns-in-Some-2
 returns-in-Some-2 c =
-    let maps = rw c.in_default.is at c.maps_verdict.ensures in
+    let maps = rw c.in_default.is at c.maps_breach.ensures in
     let all = c.in_ok-lines_breach.ensures maps.0 maps.1 maps.2 in
     let judged : Judged = record { maps = maps.0; lines = all.0 } in
     subst (λ (verdict : Verdict). Answers (run_in c.args.config.now c.args.trace.now) c.args.maps.now c.args.report.now (Ok verdict))
-    (sym c.from.ensures)
+    (sym c.from-in-Some-2.ensures)
     (broken_by_parts (run_in c.args.config.now c.args.trace.now) c.args.maps.now c.args.report.now judged
     (record { records = maps.1; lines = all.1 }) c.in-Some-2.breach.rule c.in-Some-2.breach.place (rw c.in-Some-2.is at all.2))
+
+pub returns-in-Some : goal.returns-in-Some
+returns-in-Some c =
+    let read = c.in_ok-read_lines.ensures in
+    subst (λ (verdict : Verdict). Answers (run_in c.args.config.now c.args.trace.now) c.args.maps.now c.args.report.now (Ok verdict))
+    (sym c.from.ensures) (c.in-Some.ensures c.args.report.now read.0 read.1)

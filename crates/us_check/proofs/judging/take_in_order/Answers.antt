@@ -21,7 +21,8 @@ loop-at-preserved c =
     AreTold c.args.config.now c.args.trace.now c.args.maps.now ms lines c.loop-at.judge)
     (λ lines. (ms : List RoundMap) → AreTold c.args.config.now c.args.trace.now c.args.maps.now ms [] c.args.judge.now →
     AreTold c.args.config.now c.args.trace.now c.args.maps.now ms lines c.take.new.self) c.args.report.now c.loop-at.number c.loop-at.at _ c.in-Some.behind c.loop-at.invariant
-    c.in-Some.ensures c.loop-at-test.true (λ lines is ms told. c.in_ok-take.ensures.told c.if-not-branch.false ms lines (is ms told))
+    c.in-Some.ensures c.loop-at-test.true (λ lines is ms told.
+    rw c.row.ensures at (c.in_ok-take.ensures.told c.if-not-branch.false ms lines (is ms told)))
 
 pub returns-in_default : goal.returns-in_default
 returns-in_default c =

@@ -6,16 +6,16 @@ use Rattle.us_check.proofs.judging.told_judge.Goals as goal
 
 pub take_in_order-requires : goal.take_in_order-requires
 take_in_order-requires c =
-    (c.requires.maps.0, c.in_ok-judge.ensures c.args.maps.now c.requires.maps.0 c.requires.maps.1)
+    (c.requires.maps.0, c.in_ok-judge.ensures.told c.args.maps.now c.requires.maps.0 c.requires.maps.1)
 
 pub returns-then-branch : goal.returns-then-branch
 returns-then-branch c = λ ms is.
-    let all = c.in_ok-take_in_order.ensures c.if-branch.true ms (c.in_ok-judge.ensures c.args.maps.now ms is) in
+    let all = c.in_ok-take_in_order.ensures c.if-branch.true ms (c.in_ok-judge.ensures.told c.args.maps.now ms is) in
     record { lines = all.0; told = all.0; read = all.1; same = λ f. refl; judge = all.2 }
 
-pub take_sorted-requires : goal.take_sorted-requires
-take_sorted-requires c =
-    (c.requires.maps.0, c.in_ok-sorted.ensures c.args.maps.now c.requires.maps.0 c.requires.maps.1)
+pub take_sorted-requires-clause-told : goal.take_sorted-requires-clause-told
+take_sorted-requires-clause-told c =
+    (c.requires.maps.0, c.in_ok-sorted.ensures.told c.args.maps.now c.requires.maps.0 c.requires.maps.1)
 
 pub returns : goal.returns
 returns c = λ ms is.
@@ -28,5 +28,5 @@ returns c = λ ms is.
       same = same_filter_map (λ s. line_there c.args.report.now s.at) stand.read sorted
           (same_moved stand.read sorted stand.moved);
       judge = rw c.deref.ensures.value at
-          (c.in_ok-take_sorted.ensures ms (c.in_ok-sorted.ensures c.args.maps.now ms is));
+          (c.in_ok-take_sorted.ensures ms (c.in_ok-sorted.ensures.told c.args.maps.now ms is));
     }

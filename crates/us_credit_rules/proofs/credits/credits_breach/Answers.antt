@@ -1,9 +1,6 @@
 use Rattle.us_lawful.specs.Runs.{run_in}
 use Rattle.us_lawful.specs.Credits.{credit_lines_hold, credits_hold, sums_hold}
-use Rattle.us_lawful.proofs.SameLemmas.{same_moved}
 use Rattle.us_reports.proofs.BreachLemmas.{both_tests, holds_first}
-use Rattle.us_lawful.specs.Runs.{requested_in}
-use Rattle.us_credit_rules.proofs.KeptLemmas.{requests_moved}
 use Rattle.us_credit_rules.specs.Ends.{first_of}
 use Rattle.us_credit_rules.specs.Ledgers.{sum_place}
 use Rattle.us_credit_rules.proofs.RepeatLemmas.{lines_first}
@@ -15,8 +12,7 @@ returns c = λ v judged are.
     let t = c.args.config.now in
     let run = run_in t v in
     let kept = c.args.lines.now in
-    let wrong = lines_first t v judged.lines (requested_in are.0) kept.requests.repeats.first c.channels.ensures.lawful
-    (requests_moved judged.lines are.0 (same_moved judged.lines are.0 are.1)) are.2.requests.wrong in
+    let wrong = lines_first t v judged.lines kept.requests.repeats.first c.channels.ensures.lawful are.requests.wrong in
     rw (c.earlier.ensures, c.channels.ensures.value, c.first_sum-sum.ensures)
     (holds_first t.channels (credits_hold run judged) _
     (both_tests t.channels (credit_lines_hold run judged) (sums_hold run judged) kept.requests.repeats.first

@@ -1,10 +1,9 @@
 use Rattle.std.proofs.Common.{◌≡◌, Option, None}
-use Rattle.std.proofs.lemmas.List.Sorted.{IsPermutation-refl}
 use Rattle.us_flows.specs.Tables.{Tables}
 use Rattle.us_requests.specs.Traces.{TraceAsks}
 use Rattle.us_reports.specs.declared.place.Place.{Place}
 use Rattle.us_lawful.specs.Runs.{Run, Judged, run_in}
-use Rattle.us_credit_rules.specs.CreditLines.{AreCreditLines}
+use Rattle.us_credit_rules.specs.CreditLines.{AreKept}
 use Rattle.us_check.specs.Verdicts.{Activities, CalendarLines, Counts, Credits, Finals, Rates, Regions}
 use Rattle.us_check.proofs.JudgeLemmas.{or_lacked, or_none, or_part}
 use Rattle.us_check.proofs.judges.Judge.breach.Goals as goal
@@ -16,8 +15,7 @@ returns c = λ maps lines told heads.
     let run : Run = run_in t v in
     let judged : Judged = record { maps = maps; lines = lines } in
     let lacked : Option Place = c.args.self.now.lacked in
-    let credits : lacked ≡ None → AreCreditLines t v lines c.args.self.now.credits =
-    λ none. (lines, IsPermutation-refl lines, (told.all none).credits) in
+    let credits : lacked ≡ None → AreKept t v lines c.args.self.now.credits = λ none. (told.all none).credits in
     let places = or_lacked run judged lacked _ heads told.lacked c.broken.ensures in
     let regions = or_part run judged _ Regions _ _ _ _ places
     (λ none. c.in_ok-minislots.ensures maps lines (told.all none).regions) c.broken-2.ensures c.or.ensures in

@@ -30,7 +30,7 @@ returns-in-Activity-clause-kept c = λ lines are.
     rw c.in-Activity.is
     (with_line t v lines kept are (rows.Activity c.in-Activity.activity) _ refl (same_requests t v lines kept are)
     (same_finals t v lines kept are)
-    (c.take-in-Activity.ensures t v (activities_in lines) c.channels-channels.ensures.value
+    (c.take-in-Activity.ensures t v (activities_in lines) c.channels-in-Activity.ensures.value
     c.rounds-in-Activity.ensures.value are.talkers) (same_counts t v lines kept are))
 
 pub returns-in-Final-clause-kept : goal.returns-in-Final-clause-kept
@@ -46,7 +46,7 @@ returns-in-Final-clause-kept c = λ lines are.
     (line_told t.channels v.rounds (length (words_of t)) (λ (f : FinalState). f.flow)
     (λ f. word_of f.flow f.cluster (table_order t)) (finals_in lines) kept.finals c.take-in-Final.new.self state
     (rw word at c.take-in-Final.ensures.told)
-    (rw (word, c.channels-channels.ensures.value, c.rounds.ensures.value) at c.take-in-Final.ensures.strange) are.finals)
+    (rw (word, c.channels.ensures.value, c.rounds.ensures.value) at c.take-in-Final.ensures.strange) are.finals)
     (same_talkers t v lines kept are) (same_counts t v lines kept are))
 
 pub returns-then-eq-clause-kept : goal.returns-then-eq-clause-kept

@@ -11,4 +11,4 @@ told_again-told-requires c =
     rw (c.key_of.ensures, c.deref_mut.ensures.value)
     (key_inside (word_in (option_copied c.args.seat)) c.args.grant.now.channel long
     (word_is (λ k. k * 256 + 256 ≤ long) (option_copied c.args.seat)
-    (of_seat (λ turn. turn.number * 256 + 256 ≤ long) c.args.seat c.requires)))
+    (of_seat (λ turn. turn.number * 256 + 256 ≤ long) c.args.seat c.requires.room)))

@@ -1,13 +1,12 @@
 use Rattle.std.proofs.Common.{[], length, get_or, ap, subst, sym, ◌∙◌, arith}
 use Rattle.std.proofs.lemmas.List.{get_or-replicate}
-use Rattle.us_lawful.specs.Runs.{run_in}
 use Rattle.us_map_rules.specs.Told.{IsTold, nothing}
 use Rattle.us_map_rules.proofs.TakingLemmas.{nothing_told}
 use Rattle.us_map_rules.proofs.calendar_lines.CalendarLines.new.Goals as goal
 
 pub returns-clause-told : goal.returns-clause-told
 returns-clause-told c =
-    let run = run_in c.args.config.now c.args.trace.now in
+    let run = c.in_ok-run.run' in
     let es = c.in_ok-listed.listed in
     record {
       told = λ place l t inside.

@@ -32,6 +32,6 @@ returns-in-Some c =
     let round = c.args.time / round_quarters run.tables in
     c.is_active.ensures
     ∙ ap (λ quarters. is_active marks s.word (c.args.time / quarters)) (c.from.ensures ∙ c.round_quarters.ensures.value)
-    ∙ speaks_as_told t v marks l s round (subst AreTables tables c.round_quarters.ensures.lawful) c.self.invariant
+    ∙ speaks_as_told t v marks l s round (subst AreTables tables c.round_quarters.ensures.lawful) c.self.invariant.marks
     (subst (λ u. Contains (channel_entries u) l) tables c.requires) is
     ∙ ap (λ r. active_in l.entry.silence r.cuts round) c.self.view_is
