@@ -1,8 +1,6 @@
 ghost use Rattle.std.specs.Prelude.{◌≡◌};
 ghost use Rattle.us_verdict_words.specs.Codes.{code_of};
 
-use us_output::MissedOccurrence;
-
 /// A rule of the checker.
 #[derive(Clone, Copy)]
 pub enum Rule {
@@ -47,11 +45,4 @@ pub struct BrokenRule {
     pub channel: u64,
     /// The third number: the index of a record, a minislot, or the id of a flow or of a station.
     pub place: u64,
-}
-
-impl BrokenRule {
-    /// Whether a line is about its round, channel and id.
-    pub(crate) fn is_at(&self, line: &MissedOccurrence) -> bool {
-        line.round == self.round && line.channel == self.channel && line.id == self.place
-    }
 }

@@ -2,19 +2,22 @@ use crate::broken::BrokenRule;
 use crate::calendars::saturated;
 use crate::findings::VerdictFile;
 use crate::levels::Level;
-use crate::lines::Lines;
-use crate::runs::Run;
+use crate::lines::{Lines, Which};
+use crate::runs::{Lengths, flow_with};
 use crate::said::{Said, place_of};
 use crate::sentences::{Name, Sentence, Text};
+use crate::told::told_by;
 use us_bucket::UNITS_PER_BYTE;
 use us_flows::Flow;
-use us_output::{EntryWord, Grant, Row};
+use us_output::Row;
 use us_requests::Trace;
+
+/// All clusters of a flow.
+pub(crate) const ALL: [u64; 2] = [0, u64::MAX];
 
 /// What lines credit to a flow, or to one of its clusters: before a round, and in it.
 #[derive(Clone, Copy)]
 pub(crate) struct Credits {
-    round: u64,
     /// The bytes before the round.
     pub(crate) before: u64,
     /// The bytes in it, and the lines.
@@ -25,55 +28,50 @@ pub(crate) struct Credits {
 }
 
 impl Credits {
-    /// One grant more, told at this place among all rows.
-    fn add(&mut self, place: usize, grant: &Grant) {
-        if grant.round == self.round {
-            self.lines.add(place);
-            self.inside = self.inside.saturating_add(grant.credit);
-        } else if grant.round < self.round {
-            self.before = self.before.saturating_add(grant.credit);
-            self.level.spend(grant.round, grant.credit);
-        }
-    }
-
     /// That the bytes in the round are too many, and how many there may be at most.
-    fn said(&self, place: Sentence, most: Sentence) -> Said {
+    fn said(self, place: Sentence, most: Sentence) -> Said {
         let before = Sentence::of(Text::Credited, self.inside);
-        Said::of_lines(&self.lines, place, before, most)
+        Said::at_lines(place, before, self.lines, most)
     }
 }
 
-/// The grant that a line of a request tells.
-pub(crate) fn requested(row: &Row) -> Option<&Grant> {
-    match row {
-        Row::Granted(grant) if grant.entry == EntryWord::Requested => Some(grant),
-        _ => None,
-    }
-}
-
-/// What the lines of a report credit to a flow, or to one of its clusters.
-pub(crate) fn credits_of(run: &Run<'_>, flow: &Flow, cluster: Option<u64>, round: u64) -> Credits {
-    let mut credits = Credits {
-        round,
-        before: 0,
-        inside: 0,
-        lines: Lines::none(),
-        level: Level::of_flow(run.config, flow),
-    };
-    for (place, row) in run.rows.iter().enumerate() {
-        if let Some(grant) = requested(row) {
-            if grant.id == flow.id() as u64 && cluster.unwrap_or(grant.i) == grant.i {
-                credits.add(place, grant);
+/// What the lines of a report credit to these clusters of a flow.
+pub(crate) fn credits_of(
+    rows: &[Row],
+    flow: &Flow,
+    clusters: [u64; 2],
+    round_ticks: u64,
+    round: u64,
+) -> Credits {
+    let [least, most] = clusters;
+    let which = Which::Requests(flow.id() as u64, least, most);
+    let (mut before, mut inside) = (0_u64, 0_u64);
+    let mut lines = Lines::none();
+    let mut level = Level::of_flow(flow, round_ticks);
+    for (place, row) in rows.iter().enumerate() {
+        let line = told_by(row);
+        if which.has(line) {
+            if line.round == round {
+                lines.add(place);
+                inside = inside.saturating_add(line.credit);
+            } else if line.round < round {
+                before = before.saturating_add(line.credit);
+                level = level.spent(line.round, line.credit);
             }
         }
     }
-    credits
+    Credits {
+        before,
+        inside,
+        lines,
+        level,
+    }
 }
 
 /// The number of a flow's first word.
-pub(crate) fn first_word(run: &Run<'_>, id: u64) -> u64 {
+pub(crate) fn first_word(flows: &[Flow], id: u64) -> u64 {
     let mut word = 0_u64;
-    for flow in run.config.flows() {
+    for flow in flows {
         if flow.id() as u64 == id {
             break;
         }
@@ -105,27 +103,51 @@ fn asked_in(trace: &Trace, word: u64, round: u32) -> u64 {
 }
 
 /// That a flow is credited more than its rate and its burst allow.
-pub(crate) fn rate_said(run: &Run<'_>, broken: BrokenRule) -> Said {
+pub(crate) fn rate_said(
+    flows: &[Flow],
+    lengths: Lengths,
+    rows: &[Row],
+    broken: BrokenRule,
+) -> Said {
     let place = Sentence::new(Text::Flow, [broken.round, broken.place, 0, 0]);
-    let Some(flow) = run.flow(broken.place) else {
-        return Said::at(
+    match flow_with(flows, broken.place) {
+        Some(flow) => {
+            let credits = credits_of(rows, flow, ALL, lengths.round_ticks, broken.round);
+            let most = credits.level.units_in(broken.round) / UNITS_PER_BYTE as u128;
+            credits.said(place, Sentence::of(Text::Bucket, saturated(most)))
+        }
+        None => Said::at(
             VerdictFile::Report,
             place,
             Sentence::wanted(Name::Flows, 1, 0),
-        );
-    };
-    let credits = credits_of(run, flow, None, broken.round);
-    let most = credits.level.units_in(broken.round) / UNITS_PER_BYTE as u128;
-    let most = Sentence::of(Text::Bucket, saturated(most));
-    credits.said(place, most)
+        ),
+    }
 }
 
 /// That a cluster is credited more in a round than is outstanding.
-pub(crate) fn outstanding_said(run: &Run<'_>, broken: BrokenRule) -> Said {
-    if let Some(flow) = run.flow(broken.place) {
+pub(crate) fn outstanding_said(
+    flows: &[Flow],
+    trace: &Trace,
+    lengths: Lengths,
+    rows: &[Row],
+    broken: BrokenRule,
+) -> Said {
+    if let Some(flow) = flow_with(flows, broken.place) {
+        let first = first_word(flows, broken.place);
         for cluster in 0..flow.clusters().len() as u64 {
-            if let Some(said) = cluster_said(run, broken, flow, cluster) {
-                return said;
+            let credits = credits_of(
+                rows,
+                flow,
+                [cluster, cluster],
+                lengths.round_ticks,
+                broken.round,
+            );
+            let word = first.saturating_add(cluster);
+            let asked = asked_within(trace, word, broken.round.saturating_add(1));
+            let most = asked.saturating_sub(credits.before);
+            if most < credits.inside {
+                let place = Sentence::new(Text::Cluster, [broken.round, broken.place, cluster, 0]);
+                return credits.said(place, Sentence::of(Text::Left, most));
             }
         }
     }
@@ -135,18 +157,4 @@ pub(crate) fn outstanding_said(run: &Run<'_>, broken: BrokenRule) -> Said {
         place_of(broken),
         Sentence::wanted(Name::Flows, 1, 0),
     )
-}
-
-/// The same of one cluster.
-fn cluster_said(run: &Run<'_>, broken: BrokenRule, flow: &Flow, cluster: u64) -> Option<Said> {
-    let credits = credits_of(run, flow, Some(cluster), broken.round);
-    let word = first_word(run, broken.place).saturating_add(cluster);
-    let asked = asked_within(run.trace, word, broken.round.saturating_add(1));
-    let most = asked.saturating_sub(credits.before);
-    if credits.inside <= most {
-        return None;
-    }
-    let place = Sentence::new(Text::Cluster, [broken.round, broken.place, cluster, 0]);
-    let most = Sentence::of(Text::Left, most);
-    Some(credits.said(place, most))
 }

@@ -1,37 +1,57 @@
+ghost use Rattle.std.specs.Prelude.{◌≤◌};
+
 use crate::findings::VerdictFile;
-use crate::records::{FileRecord, behind_records, byte_of, record_at};
-use crate::runs::Run;
+use crate::records::{behind_records, record_at};
+use crate::runs::Lengths;
 use crate::said::{Said, first_other};
 use crate::sentences::{NOTHING, Name, Sentence, Text};
 use std::alloc::Global;
-use us_codec::{Element, Map, MapFault, decode};
+use us_codec::{Element, Map};
+use us_flows::Channel;
 use us_slots::{Iuc, NoMemory};
 
 /// That a record doesn't say of itself what it must, is missing, or is one too many.
-pub(crate) fn heading_said(alloc: Global, run: &Run<'_>, number: u64) -> Result<Said, NoMemory> {
-    let record = record_at(run.maps, number);
-    let (Some(record), Some(wanted)) = (record, wanted_of(run, number)) else {
-        return Ok(count_said(run, number));
-    };
-    let told = told_by(alloc, &record, &wanted)?;
-    let wrong = first_other(&NAMES, &wanted, &told).unwrap_or(NOTHING);
-    Ok(Said::at(VerdictFile::Maps, record.place, wrong))
+pub(crate) fn heading_said(
+    alloc: Global,
+    channels: &[Channel],
+    lengths: Lengths,
+    maps: &[u8],
+    number: u64,
+) -> Result<Said, NoMemory> {
+    let record = record_at(alloc, maps, number, 0)?;
+    let width = (channels.len() as u64).max(1);
+    let round = number / width;
+    match channels.get((number % width) as usize) {
+        Some(channel) if record.is_whole & (round < lengths.rounds) => {
+            let wanted = wanted_of(channel, lengths, round);
+            let wrong = first_other(&NAMES, &wanted, &wanted, &record.heading);
+            Ok(Said::at(VerdictFile::Maps, record.place, wrong.unwrap_or(NOTHING)))
+        }
+        _ => {
+            let place = Sentence::new(Text::Record, [number, record.at, 0, 0]);
+            let wrong = count_wrong(maps, lengths.rounds, width);
+            Ok(Said::at(VerdictFile::Maps, place, wrong))
+        }
+    }
 }
 
 /// How many records there are, and how many there must be.
-fn count_said(run: &Run<'_>, number: u64) -> Said {
-    let (count, _) = behind_records(run.maps, u64::MAX);
-    let (rounds, width) = (run.rounds(), run.width().max(1));
-    let wrong = if count.is_multiple_of(width) {
+fn count_wrong(maps: &[u8], rounds: u64, width: u64) -> Sentence
+    requires { 1 ≤ width }
+{
+    let (count, _) = behind_records(maps, u64::MAX);
+    if count.is_multiple_of(width) {
         Sentence::new(Text::Rounds, [count / width, rounds, 0, 0])
     } else {
         Sentence::wanted(Name::Records, rounds.saturating_mul(width), count)
-    };
-    Said::at(VerdictFile::Maps, byte_of(run.maps, number), wrong)
+    }
 }
 
 /// What a MAP says of itself: its numbers, as these words tell them.
-type Heading = [u64; 10];
+pub(crate) type Heading = [u64; 10];
+
+/// That of no MAP.
+pub(crate) const NO_HEADING: Heading = [0; 10];
 
 static NAMES: [Name; 10] = [
     Name::Round,
@@ -46,18 +66,8 @@ static NAMES: [Name; 10] = [
     Name::Length,
 ];
 
-/// What a record says of itself.
-fn told_by(alloc: Global, record: &FileRecord<'_>, wanted: &Heading) -> Result<Heading, NoMemory> {
-    match decode(alloc, record.body) {
-        Ok(map) => Ok(heading_of(record.round as u64, &map)),
-        Err(MapFault::NoMemory) => Err(NoMemory),
-        // Nobody comes here: each body was read for the verdict.
-        Err(_) => Ok(*wanted),
-    }
-}
-
 /// What a MAP of this round says of itself.
-fn heading_of(round: u64, map: &Map) -> Heading {
+pub(crate) fn heading_of(round: u64, map: &Map) -> Heading {
     let head = map.head();
     let [a, b, c, d] = head.backoffs;
     [
@@ -84,29 +94,23 @@ fn null_offset(elements: &[Element]) -> u64 {
     0
 }
 
-/// What the record of this number must say of itself, if the run has it.
-fn wanted_of(run: &Run<'_>, number: u64) -> Option<Heading> {
-    let width = run.width().max(1);
-    let round = number / width;
-    if run.rounds() <= round {
-        return None;
-    }
-    let placed = run.channel_at(number % width)?;
-    let channel = placed.channel;
-    let ticks = round.saturating_mul(run.config.round_ticks() as u64);
-    let served = ticks.saturating_sub(run.config.lead_ticks() as u64);
+/// What the MAP of a round and a channel must say of itself.
+fn wanted_of(channel: &Channel, lengths: Lengths, round: u64) -> Heading {
+    let ticks = round.saturating_mul(lengths.round_ticks);
+    let served = ticks.saturating_sub(lengths.lead_ticks);
+    let len = lengths.map_len(channel);
     let [a, b] = channel.ranging_backoff;
     let [c, d] = channel.data_backoff;
-    Some([
+    [
         round,
         channel.id as u64,
         channel.ucd_count as u64,
-        round.saturating_mul(placed.len),
+        round.saturating_mul(len),
         served / channel.bursts.time().minislot_ticks() as u64,
         a as u64,
         b as u64,
         c as u64,
         d as u64,
-        placed.len,
-    ])
+        len,
+    ]
 }

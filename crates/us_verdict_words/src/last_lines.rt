@@ -1,130 +1,154 @@
 use crate::calendars::saturated;
-use crate::credits::{asked_within, credits_of, first_word};
+use crate::credits::{ALL, asked_within, credits_of, first_word};
 use crate::lines::{Lines, Which, lines_of};
-use crate::runs::Run;
-use crate::said::{Said, exact, first_other};
+use crate::runs::{Lengths, flow_with};
+use crate::said::{Said, first_other};
 use crate::sentences::{Name, Sentence, Text};
+use crate::told::{Told, Topic};
+use us_activity::Activities;
 use us_flows::Flow;
-use us_output::{FinalActivity, FinalState, Row, TraceCounts};
+use us_output::Row;
+use us_requests::Trace;
+
+/// A place of last lines: which lines these are, what they are called, and how many are wanted.
+#[derive(Clone, Copy)]
+struct LastPlace {
+    which: Which,
+    words: Sentence,
+    wanted: u64,
+}
 
 /// That a last line is wrong, is missing, or is there twice: of a flow with this id, and with 0 the U line.
-pub(crate) fn last_said(run: &Run<'_>, id: u64) -> Said {
-    let flow = run.flow(id);
-    let lists = clusters_of(flow);
+pub(crate) fn last_said(
+    flows: &[Flow],
+    trace: &Trace,
+    activities: &Activities,
+    lengths: Lengths,
+    rows: &[Row],
+    id: u64,
+) -> Said {
+    let [lists, tells] = lines_wanted(flows, id);
     for number in 0..lists.saturating_add(3) {
-        if let Some(said) = said_at(run, place_at(id, lists, number), flow) {
-            return said;
+        let place = place_at(id, lists, tells, number);
+        let lines = lines_of(rows, place.which);
+        if lines.count as u64 != place.wanted {
+            return Said::count(place.wanted, lines, place.words);
+        }
+        let line = lines.first(rows);
+        let wanted = wanted_of(flows, trace, activities, lengths, rows, line);
+        let names = names_of(line, wanted);
+        if let Some(wrong) = first_other(&names, &wanted, &wanted, &line.last) {
+            return Said::at(lines.file(), place.words, wrong);
         }
     }
     // Nobody comes here: a last line is wrong, or the verdict is another.
-    Said::count(1, &Lines::none(), words_of(Which::Counts))
+    Said::count(1, Lines::none(), Sentence::of(Text::CountsLine, 0))
+}
+
+/// How many F lines and A lines a flow has; none, if no flow has this id.
+fn lines_wanted(flows: &[Flow], id: u64) -> [u64; 2] {
+    match flow_with(flows, id) {
+        Some(flow) => {
+            let kind = flow.kind();
+            let clusters = flow.clusters().len() as u64;
+            let lists = if kind.makes_requests() { clusters } else { 0 };
+            [lists, kind.tells_activity() as u64]
+        }
+        None => [0, 0],
+    }
 }
 
 /// The places of an id in their order: F lines of clusters that its flow hasn't, those of each of its clusters, A lines,
 /// and the U line.
-fn place_at(id: u64, lists: u64, number: u64) -> Which {
-    match number.checked_sub(1) {
-        None => Which::FinalFrom(id, lists),
-        Some(list) if list < lists => Which::Final(id, list),
-        Some(list) if list == lists => Which::Activity(id),
-        Some(_) => Which::Counts,
+fn place_at(id: u64, lists: u64, tells: u64, number: u64) -> LastPlace {
+    let list = number.saturating_sub(1);
+    if number == 0 {
+        LastPlace {
+            which: Which::Last(Topic::Final, id, lists, u64::MAX),
+            words: Sentence::new(Text::FinalLinesFrom, [id, lists, 0, 0]),
+            wanted: 0,
+        }
+    } else if list < lists {
+        LastPlace {
+            which: Which::Last(Topic::Final, id, list, list),
+            words: Sentence::new(Text::FinalLine, [id, list, 0, 0]),
+            wanted: 1,
+        }
+    } else if list == lists {
+        LastPlace {
+            which: Which::Last(Topic::Activity, id, 0, u64::MAX),
+            words: Sentence::of(Text::ActivityLine, id),
+            wanted: tells,
+        }
+    } else {
+        LastPlace {
+            which: Which::Last(Topic::Counts, 0, 0, u64::MAX),
+            words: Sentence::of(Text::CountsLine, 0),
+            wanted: 1,
+        }
     }
 }
 
-/// A place of last lines, in words.
-fn words_of(place: Which) -> Sentence {
-    match place {
-        Which::Final(id, list) => Sentence::new(Text::FinalLine, [id, list, 0, 0]),
-        Which::FinalFrom(id, list) => { Sentence::new(Text::FinalLinesFrom, [id, list, 0, 0]) }
-        Which::Activity(id) => Sentence::of(Text::ActivityLine, id),
-        _ => Sentence::of(Text::CountsLine, 0),
+/// What a last line must tell.
+fn wanted_of(
+    flows: &[Flow],
+    trace: &Trace,
+    activities: &Activities,
+    lengths: Lengths,
+    rows: &[Row],
+    line: Told,
+) -> [u64; 3] {
+    let counts = trace.counts();
+    match (line.topic, flow_with(flows, line.id)) {
+        (Topic::Final, Some(flow)) => wanted_final(flows, flow, trace, lengths, rows, line),
+        (Topic::Activity, _) => {
+            let word = u16::try_from(first_word(flows, line.id)).unwrap_or(u16::MAX);
+            let end = (lengths.rounds as u128).saturating_sub(1);
+            [activities.is_active(word, end) as u64, 0, 0]
+        }
+        (Topic::Counts, _) => [
+            counts.unknown as u64,
+            counts.not_requestable as u64,
+            counts.late as u64,
+        ],
+        _ => line.last,
     }
 }
 
-/// How many clusters a flow has that make requests.
-fn clusters_of(flow: Option<&Flow>) -> u64 {
-    match flow {
-        Some(flow) if flow.kind().makes_requests() => flow.clusters().len() as u64,
-        _ => 0,
-    }
-}
-
-/// What is said of a place where there aren't so many lines as are wanted, or the one isn't right.
-fn said_at(run: &Run<'_>, place: Which, flow: Option<&Flow>) -> Option<Said> {
-    let lines = lines_of(run.rows, place);
-    let wanted = wanted_at(place, flow);
-    if lines.count as u64 != wanted {
-        return Some(Said::count(wanted, &lines, words_of(place)));
-    }
-    match wrong_with(run, flow, lines.first(run.rows)) {
-        Some(wrong) => Some(Said::at(lines.file(), words_of(place), wrong)),
-        None => None,
-    }
-}
-
-/// How many lines a place has.
-fn wanted_at(place: Which, flow: Option<&Flow>) -> u64 {
-    match (place, flow) {
-        (Which::Final(..) | Which::Counts, _) => 1,
-        (Which::Activity(_), Some(flow)) if flow.kind().tells_activity() => 1,
-        _ => 0,
-    }
-}
-
-/// What is wrong with a last line, the first one of its place.
-fn wrong_with(run: &Run<'_>, flow: Option<&Flow>, line: Option<&Row>) -> Option<Sentence> {
-    match (line, flow) {
-        (Some(Row::Final(state)), Some(flow)) => wrong_final(run, flow, state),
-        (Some(Row::Activity(told)), _) => wrong_activity(run, told),
-        (Some(Row::Counts(told)), _) => wrong_counts(run, told),
-        _ => None,
-    }
-}
-
-/// What is wrong with an F line of a flow.
-fn wrong_final(run: &Run<'_>, flow: &Flow, state: &FinalState) -> Option<Sentence> {
-    let rounds = run.rounds();
-    let word = first_word(run, state.flow).saturating_add(state.cluster);
-    let asked = asked_within(run.trace, word, rounds);
-    let left = asked.saturating_sub(credits_of(run, flow, Some(state.cluster), rounds).before);
-    let level = credits_of(run, flow, None, rounds).level;
+/// What an F line of a flow must tell: what is outstanding, whether there are units, and these.
+fn wanted_final(
+    flows: &[Flow],
+    flow: &Flow,
+    trace: &Trace,
+    lengths: Lengths,
+    rows: &[Row],
+    line: Told,
+) -> [u64; 3] {
+    let (rounds, ticks) = (lengths.rounds, lengths.round_ticks);
+    let word = first_word(flows, line.id).saturating_add(line.i);
+    let asked = asked_within(trace, word, rounds);
+    let credited = credits_of(rows, flow, [line.i, line.i], ticks, rounds).before;
+    let level = credits_of(rows, flow, ALL, ticks, rounds).level;
     let units = saturated(level.units_in(rounds.saturating_sub(1)));
-    exact(Name::Outstanding, left, state.outstanding).or(wrong_units(
-        flow.rate(),
-        units,
-        state.units,
-    ))
+    let has_units = flow.rate() != 0;
+    [
+        asked.saturating_sub(credited),
+        has_units as u64,
+        if has_units { units } else { 0 },
+    ]
 }
 
-/// What is wrong with the units of an F line of a flow with this rate; none are told where it is 0.
-fn wrong_units(rate: u32, units: u64, told: Option<u64>) -> Option<Sentence> {
-    match (rate, told) {
-        (0, None) => None,
-        (0, Some(_)) => exact(Name::NumbersWithoutRate, 0, 1),
-        (_, None) => exact(Name::NumbersWithRate, 1, 0),
-        (_, Some(there)) => exact(Name::Units, units, there),
+/// What the numbers of a last line are called. That units are wanted, or aren't, is told in words.
+fn names_of(line: Told, wanted: [u64; 3]) -> [Name; 3] {
+    let [_, has_units, _] = wanted;
+    match line.topic {
+        Topic::Final if has_units == 0 => [
+            Name::Outstanding,
+            Name::NumbersWithoutRate,
+            Name::Units,
+        ],
+        Topic::Final => [Name::Outstanding, Name::NumbersWithRate, Name::Units],
+        Topic::Activity => [Name::Active; 3],
+        _ => [Name::Unknown, Name::NotRequestable, Name::Late],
     }
-}
-
-/// What is wrong with an A line.
-fn wrong_activity(run: &Run<'_>, told: &FinalActivity) -> Option<Sentence> {
-    let word = u16::try_from(first_word(run, told.flow)).unwrap_or(u16::MAX);
-    let end = (run.rounds() as u128).saturating_sub(1);
-    let active = run.activities.is_active(word, end) as u64;
-    exact(Name::Active, active, told.active)
-}
-
-/// What is wrong with a U line.
-fn wrong_counts(run: &Run<'_>, told: &TraceCounts) -> Option<Sentence> {
-    let counts = run.trace.counts();
-    let wanted = [
-        counts.unknown as u64,
-        counts.not_requestable as u64,
-        counts.late as u64,
-    ];
-    first_other(
-        &[Name::Unknown, Name::NotRequestable, Name::Late],
-        &wanted,
-        &[told.unknown, told.not_requestable, told.late],
-    )
 }

@@ -1,5 +1,5 @@
 use us_bucket::UNITS_PER_BYTE;
-use us_flows::{Config, Flow};
+use us_flows::Flow;
 
 /// What the bucket of a flow holds, by lines that stand in the order of rounds. Where they don't, it is taken for full.
 #[derive(Clone, Copy)]
@@ -14,10 +14,10 @@ pub(crate) struct Level {
 
 impl Level {
     /// That of a flow, full in round 0.
-    pub(crate) fn of_flow(config: &Config, flow: &Flow) -> Level {
+    pub(crate) fn of_flow(flow: &Flow, round_ticks: u64) -> Level {
         let full = flow.burst() as u128 * UNITS_PER_BYTE as u128;
         Level {
-            growth: config.round_ticks() as u128 * flow.rate() as u128,
+            growth: round_ticks as u128 * flow.rate() as u128,
             full,
             units: full,
             round: 0,
@@ -25,7 +25,7 @@ impl Level {
     }
 
     /// The units in it in a round, or in the last one in which something was credited.
-    pub(crate) fn units_in(&self, round: u64) -> u128 {
+    pub(crate) fn units_in(self, round: u64) -> u128 {
         if round < self.round {
             return self.full;
         }
@@ -34,10 +34,13 @@ impl Level {
         self.units.saturating_add(grown).min(self.full)
     }
 
-    /// So many bytes are credited in a round.
-    pub(crate) fn spend(&mut self, round: u64, bytes: u64) {
+    /// The same after so many bytes are credited in a round.
+    pub(crate) fn spent(self, round: u64, bytes: u64) -> Level {
         let spent = (bytes as u128).saturating_mul(UNITS_PER_BYTE as u128);
-        self.units = self.units_in(round).saturating_sub(spent);
-        self.round = round;
+        Level {
+            units: self.units_in(round).saturating_sub(spent),
+            round,
+            ..self
+        }
     }
 }

@@ -15,8 +15,9 @@ mod broken;
 // What is answered.
 mod findings;
 
-// Lines of a report.
+// Lines of a report, and what each tells.
 mod lines;
+mod told;
 
 // Words with numbers among them.
 mod sentences;
@@ -24,7 +25,7 @@ mod sentences;
 // What is found: the place, and what is wanted there.
 mod said;
 
-// What is judged, and by what.
+// The run that is judged.
 mod runs;
 
 // Records of a maps file, and what each says of itself.

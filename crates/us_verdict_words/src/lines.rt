@@ -1,9 +1,8 @@
+use crate::broken::BrokenRule;
 use crate::findings::VerdictFile;
-use crate::sentences::{NOTHING, Sentence, Text};
-use std::alloc::Global;
-use us_output::{MissedOccurrence, Row};
-use us_reports::{ReportFault, report_rows};
-use us_slots::NoMemory;
+use crate::sentences::{Sentence, Text};
+use crate::told::{NO_LINE, REQUESTED, Told, Topic, told_by};
+use us_output::Row;
 
 /// How many lines are named by their numbers.
 const MAX_NAMED: usize = 5;
@@ -42,24 +41,31 @@ impl Lines {
         self.count = self.count.saturating_add(1);
     }
 
-    /// The row of the first one.
-    pub(crate) fn first<'r>(&self, rows: &'r [Row]) -> Option<&'r Row> {
-        let place = self.numbers[0].checked_sub(1)?;
-        rows.get(place as usize)
+    /// What the first one tells.
+    pub(crate) fn first(self, rows: &[Row]) -> Told {
+        let place = self.numbers[0].wrapping_sub(1);
+        rows.get(place as usize).map_or(NO_LINE, told_by)
     }
 
-    /// What a finding at the first one calls them: `this line and line 12`, and how many more there are than are named.
-    pub(crate) fn words(&self) -> [Sentence; 2] {
+    /// What a finding at the first one calls them: `this line and line 12`.
+    pub(crate) fn named(self) -> Sentence {
         let [_, a, b, c, d] = self.numbers;
-        let named = Sentence::new(LINES[self.count.min(MAX_NAMED)], [a, b, c, d]);
-        match self.count.saturating_sub(MAX_NAMED) {
-            0 => [named, NOTHING],
-            more => [named, Sentence::of(Text::MoreLines, more as u64)],
-        }
+        Sentence::new(LINES[self.count.min(MAX_NAMED)], [a, b, c, d])
+    }
+
+    /// How many more there are than are named.
+    pub(crate) fn more(self) -> Sentence {
+        let more = self.count.saturating_sub(MAX_NAMED);
+        let text = if more == 0 {
+            Text::Nothing
+        } else {
+            Text::MoreLines
+        };
+        Sentence::of(text, more as u64)
     }
 
     /// Where a finding of them is: at the first one, if there is one.
-    pub(crate) fn file(&self) -> VerdictFile {
+    pub(crate) fn file(self) -> VerdictFile {
         if self.count == 0 {
             VerdictFile::Report
         } else {
@@ -68,67 +74,59 @@ impl Lines {
     }
 }
 
+/// An occurrence of an entry.
+#[derive(Clone, Copy)]
+pub(crate) struct Occurrence {
+    pub(crate) topic: Topic,
+    pub(crate) id: u64,
+    pub(crate) i: u64,
+    pub(crate) k: u64,
+}
+
 /// The lines that a report has of something.
 #[derive(Clone, Copy)]
 pub(crate) enum Which {
     /// Those of a round and a channel.
     Map(u64, u64),
+    /// Those of calendars that are at the place of a verdict,
+    Calendar(BrokenRule),
+    /// and those of requests there, from this cluster up to that one.
+    Request(BrokenRule, u64, u64),
+    /// The grants of requests of a flow, of such clusters.
+    Requests(u64, u64, u64),
     /// Those that name this occurrence.
-    Occurrence(MissedOccurrence),
-    /// F lines of a cluster of a flow,
-    Final(u64, u64),
-    /// of all its clusters from this one on,
-    FinalFrom(u64, u64),
-    /// its A lines,
-    Activity(u64),
-    /// or the U lines.
-    Counts,
+    Occurrence(Occurrence),
+    /// Last lines about this, of a flow and of such clusters.
+    Last(Topic, u64, u64, u64),
 }
 
 impl Which {
-    /// Whether a row is one of them.
-    fn has(self, row: &Row) -> bool {
-        match (self, row) {
-            (Which::Final(id, list), Row::Final(state)) => {
-                state.flow == id && state.cluster == list
-            }
-            (Which::FinalFrom(id, list), Row::Final(state)) => {
-                state.flow == id && list <= state.cluster
-            }
-            (Which::Activity(id), Row::Activity(told)) => told.flow == id,
-            (Which::Counts, Row::Counts(_)) => true,
-            _ => match named(row) {
-                Some(line) => self.has_occurrence(&line),
-                None => false,
-            },
-        }
-    }
-
-    /// Whether a grant or a missed occurrence is one of them.
-    fn has_occurrence(self, line: &MissedOccurrence) -> bool {
+    /// Whether a line is one of them.
+    pub(crate) fn has(self, line: Told) -> bool {
         match self {
-            Which::Map(round, channel) => line.round == round && line.channel == channel,
-            Which::Occurrence(of) => {
-                line.entry == of.entry && line.id == of.id && line.i == of.i && line.k == of.k
+            Which::Map(round, channel) => {
+                line.topic.is_of_map() & (line.round == round) & (line.channel == channel)
             }
-            _ => false,
+            Which::Calendar(broken) => {
+                line.topic.is_of_map() & (line.topic != REQUESTED) & line.is_at(broken)
+            }
+            Which::Request(broken, least, most) => {
+                let is_of = line.is_grant & (line.topic == REQUESTED);
+                is_of & line.is_at(broken) & (least <= line.i) & (line.i <= most)
+            }
+            Which::Requests(id, least, most) => {
+                let is_of = line.is_grant & (line.topic == REQUESTED);
+                is_of & (line.id == id) & (least <= line.i) & (line.i <= most)
+            }
+            Which::Occurrence(of) => {
+                let is_of = (line.topic == of.topic) & (line.id == of.id);
+                is_of & (line.i == of.i) & (line.k == of.k)
+            }
+            Which::Last(topic, id, least, most) => {
+                let is_of = (line.topic == topic) & (line.id == id);
+                is_of & (least <= line.i) & (line.i <= most)
+            }
         }
-    }
-}
-
-/// What a line of a grant or of a missed occurrence names; `None` for other lines.
-pub(crate) fn named(row: &Row) -> Option<MissedOccurrence> {
-    match row {
-        Row::Granted(grant) => Some(MissedOccurrence {
-            round: grant.round,
-            channel: grant.channel,
-            entry: grant.entry,
-            id: grant.id,
-            i: grant.i,
-            k: grant.k,
-        }),
-        Row::Missed(missed) => Some(*missed),
-        _ => None,
     }
 }
 
@@ -136,21 +134,11 @@ pub(crate) fn named(row: &Row) -> Option<MissedOccurrence> {
 pub(crate) fn lines_of(rows: &[Row], which: Which) -> Lines {
     let mut lines = Lines::none();
     for (place, row) in rows.iter().enumerate() {
-        if which.has(row) {
+        if which.has(told_by(row)) {
             lines.add(place);
         }
     }
     lines
-}
-
-/// The rows of a report that was read before.
-pub(crate) fn rows_of(alloc: Global, report: &[u8]) -> Result<Vec<Row>, NoMemory> {
-    match report_rows(alloc, report) {
-        Ok(rows) => Ok(rows),
-        Err(ReportFault::NoMemory) => Err(NoMemory),
-        // Nobody comes here: a report with such a line has no verdict.
-        Err(ReportFault::Line(_)) => Ok(Vec::new(alloc)),
-    }
 }
 
 /// The bytes of the line of this number, from 1, with its line feed.

@@ -1,46 +1,63 @@
 use crate::broken::BrokenRule;
-use crate::calendars::{ChannelEntry, Entries, ideal, saturated, window, word_of};
+use crate::calendars::{Entries, Interval, PlacedEntry};
 use crate::findings::VerdictFile;
-use crate::lines::{Lines, Which, lines_of, named};
-use crate::runs::Run;
-use crate::said::{Said, exact, first_other, place_of, within};
+use crate::lines::{Occurrence, Which, lines_of};
+use crate::runs::Lengths;
+use crate::said::{Said, first_other, place_of};
 use crate::sentences::{Name, Sentence, Text};
+use crate::told::{Told, told_by};
 use std::alloc::{AllocError, Global};
-use us_calendar::Entry;
-use us_output::{EntryWord, Grant, MissedOccurrence, Row};
+use us_activity::Activities;
+use us_output::Row;
 use us_slots::NoMemory;
 
-/// That a line of a calendar is wrong, or that an occurrence hasn't just one line.
+/// That a line of a calendar is wrong, or that an occurrence hasn't just one line: the first one that closes in the round, or
+/// else that of the first line at the verdict's place.
 pub(crate) fn occurrence_said(
     alloc: Global,
-    run: &Run<'_>,
+    entries: Entries,
+    activities: &Activities,
+    lengths: Lengths,
+    rows: &[Row],
     broken: BrokenRule,
 ) -> Result<Said, NoMemory> {
-    let mut entries = Entries {
-        flow: None,
-        station: None,
-    };
-    entries.take_all(alloc, run.config, broken.place)?;
-    if let Some(said) = wrong_line(run, broken, &entries) {
+    if let Some(said) = wrong_line(entries, activities, lengths, rows, broken) {
         return Ok(said);
     }
-    let unsettled = unsettled_of(alloc, run, &entries, broken)?;
-    Ok(count_said(run, broken, &entries, unsettled))
+    let first = lines_of(rows, Which::Calendar(broken)).first(rows);
+    let unsettled = unsettled_of(alloc, entries, activities, lengths, rows, broken)?;
+    let of = unsettled.unwrap_or(Occurrence {
+        topic: first.topic,
+        id: first.id,
+        i: first.i,
+        k: first.k,
+    });
+    let interval = entries.named(of.topic).interval(activities, lengths, of.i);
+    let before = Sentence::new(Text::Occurrence, [of.i, of.k, 0, 0]);
+    let ends = [interval.first, interval.last.saturating_add(1), 0, 0];
+    let lines = lines_of(rows, Which::Occurrence(of));
+    Ok(Said::at_lines(
+        place_of(broken),
+        before,
+        lines,
+        Sentence::new(Text::Starts, ends),
+    ))
 }
 
-/// The occurrence that a line of the calendar at a verdict's place names; `None` for other lines.
-fn occurrence_at(row: &Row, broken: BrokenRule) -> Option<MissedOccurrence> {
-    match named(row) {
-        Some(line) if line.entry != EntryWord::Requested && broken.is_at(&line) => Some(line),
-        _ => None,
-    }
-}
-
-/// What is said of the first line there that is wrong by itself.
-fn wrong_line(run: &Run<'_>, broken: BrokenRule, entries: &Entries<'_>) -> Option<Said> {
-    for (place, row) in run.rows.iter().enumerate() {
-        if let Some(line) = occurrence_at(row, broken) {
-            if let Some(wrong) = wrong_with(run, entries, &line, row) {
+/// What is said of the first line at a verdict's place that is wrong by itself.
+fn wrong_line(
+    entries: Entries,
+    activities: &Activities,
+    lengths: Lengths,
+    rows: &[Row],
+    broken: BrokenRule,
+) -> Option<Said> {
+    for (place, row) in rows.iter().enumerate() {
+        let line = told_by(row);
+        if Which::Calendar(broken).has(line) {
+            let of = entries.named(line.topic);
+            let interval = of.interval(activities, lengths, line.i);
+            if let Some(wrong) = wrong_with(of, interval, line) {
                 return Some(Said::at(VerdictFile::at(place), place_of(broken), wrong));
             }
         }
@@ -48,186 +65,155 @@ fn wrong_line(run: &Run<'_>, broken: BrokenRule, entries: &Entries<'_>) -> Optio
     None
 }
 
-/// What is wrong with a line, by itself.
-fn wrong_with(
-    run: &Run<'_>,
-    entries: &Entries<'_>,
-    line: &MissedOccurrence,
-    row: &Row,
-) -> Option<Sentence> {
-    let Some(of) = entries.named(line.entry) else {
-        return exact(Name::Entries, 1, 0);
-    };
-    let channel = of.channel.id as u64;
-    let ends = [0, run.last_place(&of.entry, line.i)];
-    let wrong = exact(Name::Channel, channel, line.channel).or(within(Name::K, ends, line.k));
-    match row {
-        Row::Granted(grant) => wrong.or(wrong_grant(run, of, grant)),
-        _ => wrong.or(wrong_round(run, of, line)),
+/// What the numbers of a grant of an entry are called, and whether there is the entry, in the order in which they are looked
+/// at.
+static GRANT_NAMES: [Name; 8] = [
+    Name::Entries,
+    Name::Channel,
+    Name::K,
+    Name::Start,
+    Name::Sid,
+    Name::Iuc,
+    Name::Slots,
+    Name::Credit,
+];
+
+/// The same of a missed occurrence.
+static MISSED_NAMES: [Name; 4] = [Name::Entries, Name::Channel, Name::K, Name::ClosingRound];
+
+/// What is wrong with a line of an interval of an entry, by itself.
+fn wrong_with(of: PlacedEntry, interval: Interval, line: Told) -> Option<Sentence> {
+    let is_there = (of.topic == line.topic) as u64;
+    let Interval {
+        last_place,
+        iuc,
+        slots,
+        first,
+        last,
+        closes,
+    } = interval;
+    if line.is_grant {
+        let before = line.round.saturating_mul(of.map_len);
+        let start = before.saturating_add(line.start);
+        first_other(
+            &GRANT_NAMES,
+            &[1, of.channel, 0, first, of.sid, iuc, slots, 0],
+            &[1, of.channel, last_place, last, of.sid, iuc, slots, 0],
+            &[
+                is_there,
+                line.channel,
+                line.k,
+                start,
+                line.sid,
+                line.iuc,
+                line.slots,
+                line.credit,
+            ],
+        )
+    } else {
+        first_other(
+            &MISSED_NAMES,
+            &[1, of.channel, 0, closes],
+            &[1, of.channel, last_place, closes],
+            &[is_there, line.channel, line.k, line.round],
+        )
     }
 }
 
-/// What is wrong with a grant of an entry: that it starts outside its window, or a number.
-fn wrong_grant(run: &Run<'_>, of: &ChannelEntry<'_>, grant: &Grant) -> Option<Sentence> {
-    let active = run.is_active(&of.entry, grant.i);
-    let owner = of.entry.owner_of(active);
-    let slots = of.entry.slots_of(active) as u64;
-    let wanted = [owner.sid() as u64, owner.iuc().number() as u64, slots, 0];
-    let there = [grant.sid, grant.iuc, grant.slots, grant.credit];
-    let names = [Name::Sid, Name::Iuc, Name::Slots, Name::Credit];
-    let before = grant.round.saturating_mul(of.len);
-    let start = before.saturating_add(grant.start);
-    within(Name::Start, window(of, grant.i), start).or(first_other(&names, &wanted, &there))
-}
-
-/// That a missed occurrence isn't told in the round in which its window closes.
-fn wrong_round(run: &Run<'_>, of: &ChannelEntry<'_>, line: &MissedOccurrence) -> Option<Sentence> {
-    let end = ideal(&of.entry, line.i).saturating_add(of.entry.jitter as u128);
-    let round = saturated(end / run.round_quarters());
-    exact(Name::ClosingRound, round, line.round)
-}
-
-/// That an occurrence hasn't just one line: this one, or else that of the first line at the verdict's place.
-fn count_said(
-    run: &Run<'_>,
-    broken: BrokenRule,
-    entries: &Entries<'_>,
-    unsettled: Option<MissedOccurrence>,
-) -> Said {
-    let Some(of) = unsettled.or(first_at(run, broken)) else {
-        // Nobody comes here: each place of a verdict has a line or an occurrence.
-        return Said::count(1, &Lines::none(), place_of(broken));
-    };
-    let lines = lines_of(run.rows, Which::Occurrence(of));
-    let before = Sentence::new(Text::Occurrence, [of.i, of.k, 0, 0]);
-    Said::of_lines(&lines, place_of(broken), before, starts_of(entries, &of))
-}
-
-/// The occurrence that the first line at a verdict's place names.
-fn first_at(run: &Run<'_>, broken: BrokenRule) -> Option<MissedOccurrence> {
-    for row in run.rows {
-        let line = occurrence_at(row, broken);
-        if line.is_some() {
-            return line;
-        }
-    }
-    None
-}
-
-/// Where an occurrence may start.
-fn starts_of(entries: &Entries<'_>, occurrence: &MissedOccurrence) -> Sentence {
-    let [first, behind] = match entries.named(occurrence.entry) {
-        Some(of) => {
-            let [first, last] = window(of, occurrence.i);
-            [first, last.saturating_add(1)]
-        }
-        None => [0, 0],
-    };
-    Sentence::new(Text::Starts, [first, behind, 0, 0])
-}
-
-/// How many lines name each occurrence of some intervals of an entry.
-#[derive(Drop)]
-struct Counted {
-    word: EntryWord,
-    id: u64,
+/// The occurrences of an entry whose windows close in a round: how many there are, from this interval on, and how many of
+/// other entries are counted before them.
+#[derive(Clone, Copy)]
+struct Closing {
+    entry: PlacedEntry,
     first: u64,
-    grants: u64,
-    counts: Vec<u8>,
+    count: u64,
+    before: u64,
 }
 
-impl Counted {
-    /// All lines of a report.
-    fn add_all(&mut self, rows: &[Row]) {
-        for row in rows {
-            if let Some(line) = named(row) {
-                self.add(&line);
-            }
+impl Closing {
+    /// Those of an entry, if it is on the channel of a verdict.
+    fn of(entry: PlacedEntry, lengths: Lengths, broken: BrokenRule, before: u64) -> Closing {
+        let first = entry.first_interval(lengths, broken.round);
+        let behind = entry.first_interval(lengths, broken.round.saturating_add(1));
+        let count = behind.saturating_sub(first).saturating_mul(entry.grants);
+        Closing {
+            entry,
+            first,
+            count: if entry.channel == broken.channel {
+                count
+            } else {
+                0
+            },
+            before,
         }
     }
 
-    /// One line more.
-    fn add(&mut self, line: &MissedOccurrence) {
-        let is_of = line.entry == self.word && line.id == self.id;
-        if !is_of || line.k >= self.grants || line.i < self.first {
-            return;
+    /// Where the one that a line of its id names is counted; behind all where it names another.
+    fn place(self, line: Told) -> u64 {
+        let entry = self.entry;
+        let intervals = line.i.saturating_sub(self.first);
+        let place = intervals
+            .saturating_mul(entry.grants)
+            .saturating_add(line.k);
+        let is_of = (line.topic == entry.topic) & (self.first <= line.i);
+        if is_of & (line.k < entry.grants) & (place < self.count) {
+            self.before.saturating_add(place)
+        } else {
+            u64::MAX
         }
-        let before = (line.i - self.first).saturating_mul(self.grants);
-        if let Some(count) = self.counts.get_mut(before.saturating_add(line.k) as usize) {
-            *count = count.saturating_add(1);
-        }
-    }
-
-    /// The first occurrence that isn't counted once.
-    fn first_wrong(
-        &self,
-        run: &Run<'_>,
-        entry: &Entry,
-        broken: BrokenRule,
-    ) -> Option<MissedOccurrence> {
-        let grants = self.grants.max(1);
-        for (place, count) in self.counts.iter().enumerate() {
-            let i = self.first.saturating_add(place as u64 / grants);
-            let k = place as u64 % grants;
-            if *count != 1 && k <= run.last_place(entry, i) {
-                return Some(MissedOccurrence {
-                    round: broken.round,
-                    channel: broken.channel,
-                    entry: self.word,
-                    id: self.id,
-                    i,
-                    k,
-                });
-            }
-        }
-        None
     }
 }
 
 /// The first occurrence of these entries on the channel whose window closes in the round, and that hasn't just one line.
 fn unsettled_of(
     alloc: Global,
-    run: &Run<'_>,
-    entries: &Entries<'_>,
+    entries: Entries,
+    activities: &Activities,
+    lengths: Lengths,
+    rows: &[Row],
     broken: BrokenRule,
-) -> Result<Option<MissedOccurrence>, AllocError> {
-    let wrong = wrong_count(alloc, run, &entries.flow, broken)?;
-    if wrong.is_some() {
-        return Ok(wrong);
+) -> Result<Option<Occurrence>, AllocError> {
+    let flow = Closing::of(entries.flow, lengths, broken, 0);
+    let station = Closing::of(entries.station, lengths, broken, flow.count);
+    let count = flow.count.saturating_add(station.count);
+    let mut counts = vec![in alloc; 0_u8; count as usize]?;
+    count_lines(&mut counts, flow, station, rows, broken.place);
+    Ok(first_wrong(&counts, flow, station, activities, lengths, broken.place))
+}
+
+/// Counts the lines of an id that name these occurrences.
+fn count_lines(counts: &mut [u8], flow: Closing, station: Closing, rows: &[Row], id: u64) {
+    for row in rows {
+        let line = told_by(row);
+        if line.id == id {
+            let place = flow.place(line).min(station.place(line));
+            if let Some(count) = counts.get_mut(place as usize) {
+                *count = count.saturating_add(1);
+            }
+        }
     }
-    wrong_count(alloc, run, &entries.station, broken)
 }
 
-/// The same of one entry.
-fn wrong_count(
-    alloc: Global,
-    run: &Run<'_>,
-    of: &Option<ChannelEntry<'_>>,
-    broken: BrokenRule,
-) -> Result<Option<MissedOccurrence>, AllocError> {
-    let entry = match of {
-        Some(of) if of.channel.id as u64 == broken.channel => &of.entry,
-        _ => return Ok(None),
-    };
-    let quarters = run.round_quarters();
-    let first = first_interval(quarters, entry, broken.round);
-    let behind = first_interval(quarters, entry, broken.round.saturating_add(1));
-    let grants = entry.grants as u64;
-    let occurrences = behind.saturating_sub(first).saturating_mul(grants);
-    let mut counted = Counted {
-        word: word_of(entry.kind),
-        id: broken.place,
-        first,
-        grants,
-        counts: vec![in alloc; 0; occurrences as usize]?,
-    };
-    counted.add_all(run.rows);
-    Ok(counted.first_wrong(run, entry, broken))
-}
-
-/// The first interval whose window closes in this round or later.
-fn first_interval(round_quarters: u128, entry: &Entry, round: u64) -> u64 {
-    let from = (round as u128).saturating_mul(round_quarters);
-    let late = entry.start as u128 + entry.jitter as u128;
-    saturated(from.saturating_sub(late).div_ceil(entry.interval as u128))
+/// The first occurrence that isn't counted once.
+fn first_wrong(
+    counts: &[u8],
+    flow: Closing,
+    station: Closing,
+    activities: &Activities,
+    lengths: Lengths,
+    id: u64,
+) -> Option<Occurrence> {
+    for (place, count) in counts.iter().enumerate() {
+        let place = place as u64;
+        let closing = if place < flow.count { flow } else { station };
+        let entry = closing.entry;
+        let grants = entry.grants.max(1);
+        let place = place.saturating_sub(closing.before);
+        let (i, k) = (closing.first.saturating_add(place / grants), place % grants);
+        if *count != 1 && k <= entry.interval(activities, lengths, i).last_place {
+            let topic = entry.topic;
+            return Some(Occurrence { topic, id, i, k });
+        }
+    }
+    None
 }

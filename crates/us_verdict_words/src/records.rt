@@ -1,84 +1,130 @@
 use crate::findings::VerdictFile;
+use crate::headings::{Heading, NO_HEADING, heading_of};
 use crate::said::Said;
 use crate::sentences::{NOTHING, Sentence, Text};
 use std::alloc::Global;
-use us_codec::{MapFault, decode};
+use us_codec::{Element, MapFault, decode};
 use us_slots::NoMemory;
 
-/// A record of a maps file: where it begins, and what it has.
+/// The bytes of a record before its body.
+const FRONT_BYTES: usize = 6;
+
+/// What the record of a maps file is, or what stands in its place.
 #[derive(Clone, Copy)]
-pub(crate) struct FileRecord<'a> {
+pub(crate) struct FileRecord {
+    /// Where it is.
     pub(crate) place: Sentence,
-    pub(crate) round: u32,
-    pub(crate) body: &'a [u8],
+    /// The byte at which it begins, or would begin.
+    pub(crate) at: u64,
+    /// Whether it is there, and whole.
+    pub(crate) is_whole: bool,
+    /// Why it is none, if its body isn't in the grammar.
+    pub(crate) fault: Option<MapFault>,
+    /// What it says of itself,
+    pub(crate) heading: Heading,
+    /// and the element that has a minislot.
+    pub(crate) element: Sentence,
 }
 
-/// The round and the body of the record that bytes begin with, and what stands behind it; `None` where they end inside it.
-fn first_piece(bytes: &[u8]) -> Option<(u32, &[u8], &[u8])> {
-    let [a, b, c, d, high, low, rest @ ..] = bytes else {
-        return None;
-    };
-    let round = u32::from_be_bytes([*a, *b, *c, *d]);
-    let (body, behind) = rest.split_at_checked(u16::from_be_bytes([*high, *low]) as usize)?;
-    Some((round, body, behind))
+/// A byte, 0 behind all of them.
+fn byte_at(bytes: &[u8], place: usize) -> u8 {
+    bytes.get(place).copied().unwrap_or(0)
+}
+
+/// How long the record is that begins these bytes, be it whole or not.
+fn record_len(bytes: &[u8]) -> usize {
+    let body = u16::from_be_bytes([byte_at(bytes, 4), byte_at(bytes, 5)]);
+    FRONT_BYTES + body as usize
 }
 
 /// What stands behind so many records of a file, or behind its last whole one, and how many stand before it.
 pub(crate) fn behind_records(file: &[u8], number: u64) -> (u64, &[u8]) {
     let mut rest = file;
     for before in 0..number {
-        match first_piece(rest) {
-            Some((_, _, behind)) => rest = behind,
+        match rest.split_at_checked(record_len(rest)) {
+            Some((_, behind)) => rest = behind,
             None => return (before, rest),
         }
     }
     (number, rest)
 }
 
-/// The record of this number, from 0; `None` where the file ends before it, or inside it.
-pub(crate) fn record_at(file: &[u8], number: u64) -> Option<FileRecord<'_>> {
-    let (_, rest) = behind_records(file, number);
-    let (round, body, _) = first_piece(rest)?;
-    let at = file.len().saturating_sub(rest.len());
-    let channel = body.first().copied().unwrap_or(0);
-    Some(FileRecord {
-        place: Sentence::new(
-            Text::RecordOfMap,
-            [number, at as u64, round as u64, channel as u64],
-        ),
-        round,
-        body,
-    })
+/// The record of this number, from 0, of which a minislot is looked at.
+pub(crate) fn record_at(
+    alloc: Global,
+    file: &[u8],
+    number: u64,
+    minislot: u64,
+) -> Result<FileRecord, NoMemory> {
+    let (_, bytes) = behind_records(file, number);
+    let at = file.len().saturating_sub(bytes.len()) as u64;
+    let len = record_len(bytes);
+    let body = bytes.get(FRONT_BYTES..len).unwrap_or(&[]);
+    let round = round_of(bytes) as u64;
+    let channel = byte_at(body, 0) as u64;
+    let is_whole = len <= bytes.len();
+    let text = if is_whole {
+        Text::RecordOfMap
+    } else {
+        Text::Record
+    };
+    let mut record = FileRecord {
+        place: Sentence::new(text, [number, at, round, channel]),
+        at,
+        is_whole,
+        fault: None,
+        heading: NO_HEADING,
+        element: NOTHING,
+    };
+    match decode(alloc, body) {
+        Ok(map) => {
+            record.heading = heading_of(round, &map);
+            record.element = element_span(map.elements(), minislot);
+        }
+        Err(MapFault::NoMemory) => return Err(NoMemory),
+        Err(fault) => record.fault = Some(fault),
+    }
+    Ok(record)
 }
 
-/// Where a record begins that isn't whole.
-pub(crate) fn byte_of(file: &[u8], number: u64) -> Sentence {
-    let (_, rest) = behind_records(file, number);
-    let at = file.len().saturating_sub(rest.len());
-    Sentence::new(Text::Record, [number, at as u64, 0, 0])
+/// The round of the record that begins these bytes.
+fn round_of(bytes: &[u8]) -> u32 {
+    u32::from_be_bytes([
+        byte_at(bytes, 0),
+        byte_at(bytes, 1),
+        byte_at(bytes, 2),
+        byte_at(bytes, 3),
+    ])
+}
+
+/// The element that has a minislot. It reaches to the first one that begins behind that.
+fn element_span(elements: &[Element], at: u64) -> Sentence {
+    let (mut begin, mut sid, mut iuc) = (0_u64, 0_u64, 0_u64);
+    for element in elements {
+        let start = element.offset() as u64;
+        if at < start {
+            return Sentence::new(
+                Text::MapSpan,
+                [begin, start.saturating_sub(begin), sid, iuc],
+            );
+        }
+        begin = start;
+        sid = element.sid() as u64;
+        iuc = element.iuc().number() as u64;
+    }
+    NOTHING
 }
 
 /// Why a record is none: the file ends inside it, or its body isn't in the grammar.
 pub(crate) fn record_said(alloc: Global, file: &[u8], number: u64) -> Result<Said, NoMemory> {
-    let (place, fault, more) = match record_at(file, number) {
-        Some(record) => (record.place, fault_of(alloc, record.body)?, NOTHING),
-        None => (
-            byte_of(file, number),
-            MapFault::RecordCut,
-            Sentence::of(Text::FileEnd, file.len() as u64),
-        ),
+    let record = record_at(alloc, file, number, 0)?;
+    let end = Sentence::of(Text::FileEnd, file.len() as u64);
+    let (fault, more) = if record.is_whole {
+        (record.fault, NOTHING)
+    } else {
+        (Some(MapFault::RecordCut), end)
     };
-    let mut said = Said::at(VerdictFile::Maps, place, more);
-    said.fault = Some(fault);
+    let mut said = Said::at(VerdictFile::Maps, record.place, more);
+    said.fault = fault;
     Ok(said)
-}
-
-/// The fault of a body that has one.
-fn fault_of(alloc: Global, body: &[u8]) -> Result<MapFault, NoMemory> {
-    match decode(alloc, body) {
-        Err(MapFault::NoMemory) => Err(NoMemory),
-        Err(fault) => Ok(fault),
-        // Nobody comes here: the record of a verdict has a fault.
-        Ok(_) => Ok(MapFault::RecordCut),
-    }
 }

@@ -1,7 +1,7 @@
 use crate::broken::BrokenRule;
 use crate::findings::VerdictFile;
 use crate::lines::Lines;
-use crate::sentences::{NOTHING, Name, Sentence, Text, Words};
+use crate::sentences::{NOTHING, Name, Sentence, Text};
 use std::fmt;
 use us_codec::MapFault;
 
@@ -18,7 +18,7 @@ pub(crate) struct Said {
 /// Writes the place, and what is wrong there.
 impl fmt::Display for Said {
     fn fmt<W: fmt::Write>(&self, f: &mut fmt::Formatter<W>) -> fmt::Result {
-        write!(f, "{}: ", self.place)?;
+        write!(f, "{}", self.place)?;
         if let Some(fault) = self.fault {
             write!(f, "{fault}")?;
         }
@@ -32,34 +32,45 @@ impl fmt::Display for Said {
 impl Said {
     /// What is wrong at a place, in one sentence.
     pub(crate) fn at(file: VerdictFile, place: Sentence, wrong: Sentence) -> Said {
-        let mut all = [NOTHING; 6];
-        all[0] = wrong;
         Said {
             file,
             place,
             fault: None,
-            wrong: all,
+            wrong: [wrong, NOTHING, NOTHING, NOTHING, NOTHING, NOTHING],
         }
     }
 
-    /// What is said of lines before and behind them, at the first of them.
+    /// What is said of lines before and behind them.
     pub(crate) fn of_lines(
-        lines: &Lines,
+        file: VerdictFile,
         place: Sentence,
         before: Sentence,
+        lines: Lines,
+        behind: [Sentence; 3],
+    ) -> Said {
+        let [a, b, c] = behind;
+        Said {
+            file,
+            place,
+            fault: None,
+            wrong: [before, lines.named(), lines.more(), a, b, c],
+        }
+    }
+
+    /// The same at the first of them, with one sentence behind.
+    pub(crate) fn at_lines(
+        place: Sentence,
+        before: Sentence,
+        lines: Lines,
         behind: Sentence,
     ) -> Said {
-        let [named, more] = lines.words();
-        let mut said = Said::at(lines.file(), place, before);
-        said.wrong[1] = named;
-        said.wrong[2] = more;
-        said.wrong[3] = behind;
-        said
+        let behind = [behind, NOTHING, NOTHING];
+        Said::of_lines(lines.file(), place, before, lines, behind)
     }
 
     /// There are these lines, in place of so many.
-    pub(crate) fn count(wanted: u64, lines: &Lines, place: Sentence) -> Said {
-        Said::of_lines(lines, place, Sentence::of(Text::Lines, wanted), NOTHING)
+    pub(crate) fn count(wanted: u64, lines: Lines, place: Sentence) -> Said {
+        Said::at_lines(place, Sentence::of(Text::Lines, wanted), lines, NOTHING)
     }
 }
 
@@ -68,39 +79,24 @@ pub(crate) fn place_of(broken: BrokenRule) -> Sentence {
     Sentence::new(Text::Place, [broken.round, broken.channel, broken.place, 0])
 }
 
-/// That a number isn't the one that is wanted.
-pub(crate) fn exact(name: Name, wanted: u64, there: u64) -> Option<Sentence> {
-    if wanted == there {
-        return None;
-    }
-    Some(Sentence::wanted(name, wanted, there))
-}
-
-/// The first of some numbers that isn't the one that is wanted.
-pub(crate) fn first_other(names: &[Name], wanted: &[u64], there: &[u64]) -> Option<Sentence> {
+/// The first of some numbers that isn't between the least and the most that are wanted, these among them.
+pub(crate) fn first_other(
+    names: &[Name],
+    least: &[u64],
+    most: &[u64],
+    there: &[u64],
+) -> Option<Sentence> {
     for (place, name) in names.iter().enumerate() {
-        if let (Some(wanted), Some(there)) = (wanted.get(place), there.get(place)) {
-            if *wanted != *there {
-                return Some(Sentence::wanted(*name, *wanted, *there));
-            }
+        let (least, most) = (number_at(least, place), number_at(most, place));
+        let there = number_at(there, place);
+        if there < least || most < there {
+            return Some(Sentence::between(*name, least, most, there));
         }
     }
     None
 }
 
-/// That a number isn't in the range that is wanted.
-pub(crate) fn within(name: Name, ends: [u64; 2], there: u64) -> Option<Sentence> {
-    if ends[0] <= there && there <= ends[1] {
-        return None;
-    }
-    Some(between(name, ends, there))
-}
-
-/// The same, whatever the number is.
-pub(crate) fn between(name: Name, [least, most]: [u64; 2], there: u64) -> Sentence {
-    if least == most {
-        Sentence::wanted(name, least, there)
-    } else {
-        Sentence(Words::Range(name), [least, most, there, 0])
-    }
+/// The number at a place, 0 behind all of them.
+fn number_at(numbers: &[u64], place: usize) -> u64 {
+    numbers.get(place).copied().unwrap_or(0)
 }

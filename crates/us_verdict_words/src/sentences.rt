@@ -1,66 +1,51 @@
 use std::fmt;
 
-/// Words with numbers among them. Of its words it has only which these are, so that it holds no reference.
+/// Words with numbers among them: a name, and behind it a text that has a number in the place of each `#`. Of these words it
+/// has only which they are, so that it holds no reference.
 #[derive(Clone, Copy)]
-pub(crate) struct Sentence(pub(crate) Words, pub(crate) [u64; 4]);
-
-/// The words of a sentence.
-#[derive(Clone, Copy)]
-pub(crate) enum Words {
-    /// That something is wanted, and something else is there.
-    Exact(Name),
-    /// The same of a range.
-    Range(Name),
-    /// Words with a number in the place of each `#`.
-    Plain(Text),
-}
+pub(crate) struct Sentence(Name, Text, [u64; 4]);
 
 /// Nothing is said.
-pub(crate) const NOTHING: Sentence = Sentence(Words::Plain(Text::Nothing), [0; 4]);
+pub(crate) const NOTHING: Sentence = Sentence(Name::Nothing, Text::Nothing, [0; 4]);
 
 impl Sentence {
-    /// Words with up to four numbers.
+    /// A text with up to four numbers.
     pub(crate) fn new(text: Text, numbers: [u64; 4]) -> Sentence {
-        Sentence(Words::Plain(text), numbers)
+        Sentence(Name::Nothing, text, numbers)
     }
 
-    /// Words with one number.
+    /// A text with one number.
     pub(crate) fn of(text: Text, number: u64) -> Sentence {
-        Sentence(Words::Plain(text), [number, 0, 0, 0])
+        Sentence(Name::Nothing, text, [number, 0, 0, 0])
     }
 
     /// That one number is wanted, and another is there.
     pub(crate) fn wanted(name: Name, wanted: u64, there: u64) -> Sentence {
-        Sentence(Words::Exact(name), [wanted, there, 0, 0])
+        Sentence(name, Text::Wanted, [wanted, there, 0, 0])
+    }
+
+    /// That a number between two is wanted, these among them, and another is there.
+    pub(crate) fn between(name: Name, least: u64, most: u64, there: u64) -> Sentence {
+        if least == most {
+            Sentence(name, Text::Wanted, [least, there, 0, 0])
+        } else {
+            Sentence(name, Text::RangeWanted, [least, most, there, 0])
+        }
     }
 }
 
 impl fmt::Display for Sentence {
     fn fmt<W: fmt::Write>(&self, f: &mut fmt::Formatter<W>) -> fmt::Result {
-        let [a, b, c, _] = self.1;
-        match self.0 {
-            Words::Exact(name) => write!(
-                f,
-                "{}: {a} is wanted, {b} is there",
-                NAMES[name as usize]
-            ),
-            Words::Range(name) => {
-                write!(
-                    f,
-                    "{}: {a} to {b} is wanted, {c} is there",
-                    NAMES[name as usize]
-                )
-            }
-            Words::Plain(text) => {
-                write!(f, "{}", us_findings::Sentence(TEXTS[text as usize], self.1))
-            }
-        }
+        let Sentence(name, text, numbers) = *self;
+        let text = us_findings::Sentence(TEXTS[text as usize], numbers);
+        write!(f, "{}{text}", NAMES[name as usize])
     }
 }
 
 /// What a number is called.
 #[derive(Clone, Copy)]
 pub(crate) enum Name {
+    Nothing,
     Round,
     Channel,
     UcdCount,
@@ -98,7 +83,8 @@ pub(crate) enum Name {
 }
 
 /// These, in the same order.
-static NAMES: [&str; 34] = [
+static NAMES: [&str; 35] = [
+    "",
     "round",
     "channel",
     "UCD Count",
@@ -135,10 +121,12 @@ static NAMES: [&str; 34] = [
     "late",
 ];
 
-/// Other words.
+/// What is said, or is said of a number that has a name.
 #[derive(Clone, Copy)]
 pub(crate) enum Text {
     Nothing,
+    Wanted,
+    RangeWanted,
     NoLine,
     OneLine,
     TwoLines,
@@ -173,8 +161,10 @@ pub(crate) enum Text {
 }
 
 /// These, in the same order.
-static TEXTS: [&str; 32] = [
+static TEXTS: [&str; 34] = [
     "",
+    ": # is wanted, # is there",
+    ": # to # is wanted, # is there",
     "no line",
     "this line",
     "this line and line #",
@@ -182,16 +172,16 @@ static TEXTS: [&str; 32] = [
     "this line and line # and line # and line #",
     "this line and line # and line # and line # and line #",
     " and # more",
-    "round #, channel #, id #",
-    "round #, channel #",
-    "round #, flow #",
-    "round #, flow #, cluster #",
-    "record #, at byte #",
-    "record #, at byte # (round #, channel #)",
-    "F line of flow #, cluster #",
-    "F line of flow #, cluster # or higher",
-    "A line of flow #",
-    "U line",
+    "round #, channel #, id #: ",
+    "round #, channel #: ",
+    "round #, flow #: ",
+    "round #, flow #, cluster #: ",
+    "record #, at byte #: ",
+    "record #, at byte # (round #, channel #): ",
+    "F line of flow #, cluster #: ",
+    "F line of flow #, cluster # or higher: ",
+    "A line of flow #: ",
+    "U line: ",
     ", at byte #",
     "the file has # rounds, --rounds says #",
     "minislot # of #: granted by ",

@@ -2,21 +2,24 @@ ghost use Rattle.std.specs.Prelude.{◌≡◌, codes, IfOk};
 ghost use Rattle.us_verdict_words.specs.Codes.{code_of};
 
 use crate::broken::{BrokenRule, Rule};
+use crate::calendars::entries_with;
 use crate::credit_lines::credit_line_said;
 use crate::credits::{outstanding_said, rate_said};
 use crate::findings::{VerdictFile, VerdictFinding};
 use crate::headings::heading_said;
 use crate::last_lines::last_said;
-use crate::lines::{line_at, rows_of};
+use crate::lines::line_at;
 use crate::minislots::minislot_said;
 use crate::occurrences::occurrence_said;
 use crate::records::record_said;
-use crate::runs::Run;
+use crate::runs::Lengths;
 use crate::said::Said;
+use crate::told::rows_of;
 use std::alloc::Global;
 use us_activity::Activities;
 use us_findings::Shown;
 use us_flows::Config;
+use us_output::Row;
 use us_requests::Trace;
 use us_slots::NoMemory;
 
@@ -51,27 +54,41 @@ fn said_of(
 ) -> Result<Said, NoMemory> {
     let rows = rows_of(alloc, report)?;
     let activities = Activities::of(alloc, config, trace)?;
-    let run = Run {
-        config,
-        trace,
-        activities: &activities,
-        maps,
-        rows: &rows,
-    };
-    said_in(alloc, &run, broken)
+    said_by(alloc, config, trace, &activities, maps, &rows, broken)
 }
 
-/// The same, of a run. Credits are lines of requests, or their sums, or last lines.
-fn said_in(alloc: Global, run: &Run<'_>, broken: BrokenRule) -> Result<Said, NoMemory> {
+/// The same, by these rows of the report. Credits are lines of requests, or their sums, or last lines.
+fn said_by(
+    alloc: Global,
+    config: &Config,
+    trace: &Trace,
+    activities: &Activities,
+    maps: &[u8],
+    rows: &[Row],
+    broken: BrokenRule,
+) -> Result<Said, NoMemory> {
+    let (channels, flows) = (config.channels(), config.flows());
+    let lengths = Lengths {
+        rounds: trace.rounds() as u64,
+        round_ticks: config.round_ticks() as u64,
+        lead_ticks: config.lead_ticks() as u64,
+    };
     match broken.rule {
-        Rule::Records => record_said(alloc, run.maps, broken.place),
-        Rule::Headings => heading_said(alloc, run, broken.place),
-        Rule::Minislots => minislot_said(alloc, run, broken),
-        Rule::Occurrences => occurrence_said(alloc, run, broken),
-        Rule::Rates => Ok(rate_said(run, broken)),
-        Rule::Credits if broken.channel != 0 => Ok(credit_line_said(run, broken)),
-        Rule::Credits if broken.round < run.rounds() => Ok(outstanding_said(run, broken)),
-        Rule::Credits => Ok(last_said(run, broken.place)),
+        Rule::Records => record_said(alloc, maps, broken.place),
+        Rule::Headings => heading_said(alloc, channels, lengths, maps, broken.place),
+        Rule::Minislots => minislot_said(alloc, channels, lengths, maps, rows, broken),
+        Rule::Occurrences => {
+            let entries = entries_with(alloc, config, lengths, broken.place)?;
+            occurrence_said(alloc, entries, activities, lengths, rows, broken)
+        }
+        Rule::Rates => Ok(rate_said(flows, lengths, rows, broken)),
+        Rule::Credits if broken.channel != 0 => {
+            Ok(credit_line_said(flows, channels, rows, broken))
+        }
+        Rule::Credits if broken.round < lengths.rounds => {
+            Ok(outstanding_said(flows, trace, lengths, rows, broken))
+        }
+        Rule::Credits => Ok(last_said(flows, trace, activities, lengths, rows, broken.place)),
     }
 }
 
