@@ -12,6 +12,8 @@ pub mod WalkLemmas
 pub mod BoundLemmas
 -- accounts of flows
 pub mod FlowLemmas
+-- costs of any bytes
+pub mod CostLemmas
 -- lines of requests, and their channels
 pub mod ChannelLemmas
 pub mod RepeatLemmas

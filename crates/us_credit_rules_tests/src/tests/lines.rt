@@ -1,7 +1,7 @@
 use super::base::{Case, Rule, compare, judge};
 
 /// Lines of requests that are right, each for itself and for the sum of its cluster.
-static RIGHT: [Case; 4] = [
+static RIGHT: [Case; 5] = [
     ("", None),
     (
         "G,1,1,req,1,0,0,291,10,0,32,1000\nG,1,2,req,7,0,0,300,10,0,14,400\nG,1,1,req,7,1,0,303,9,32,3,50\n",
@@ -13,6 +13,7 @@ static RIGHT: [Case; 4] = [
         None,
     ),
     // whatever was asked for, in a round that the run lacks
+    ("G,3,1,req,1,0,0,291,10,0,3065,98050\n", None),
     (
         "G,3,1,req,1,0,0,291,10,0,576460752303423489,18446744073709551615\n",
         None,
