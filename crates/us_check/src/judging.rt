@@ -1,4 +1,4 @@
-ghost use Rattle.std.specs.Prelude.{◌≡◌, [], List, length, true, OnOk, IfOk};
+ghost use Rattle.std.specs.Prelude.{◌≡◌, [], List, length, true, OnOk, IfOk, IfSome};
 ghost use Rattle.std.specs.List.{AllByRecursion};
 ghost use Rattle.us_flows.specs.Tables.{rounds_fit};
 ghost use Rattle.us_output.specs.declared.rows.Row.{Row as ReportRow};
@@ -71,14 +71,50 @@ fn told_judge<'a>(
     ensures { spec.Reads report.now (λ judge. (ms : List RoundMap) → IsMapsOf maps.now ms →
         spec.IsOfReport config.now trace.now maps.now report.now ms judge) result }
 {
+    match judge_in_order(alloc, config, trace, maps, report)? {
+        Some(judge) => Ok(judge),
+        None => judge_sorted(alloc, config, trace, maps, report),
+    }
+}
+
+/// The same of lines that are told as they stand; none where one of them comes too late.
+fn judge_in_order<'a>(
+    alloc: Global,
+    config: &'a Config,
+    trace: &'a Trace,
+    maps: &[u8],
+    report: &[u8],
+) -> Result<Option<Judge<'a>>, CheckFault>
+    requires rounds { rounds_fit config.now trace.now.rounds ≡ true }
+    requires maps { (ms : List RoundMap) × IsMapsOf maps.now ms }
+    ensures { spec.Reads report.now (λ told. IfSome told (λ judge. (ms : List RoundMap) → IsMapsOf maps.now ms →
+        spec.IsOfReport config.now trace.now maps.now report.now ms judge)) result }
+{
     let mut judge = Judge::new(alloc, config, trace)?;
     if take_in_order(&mut judge, config, trace, maps, report)? {
-        return Ok(judge);
+        Ok(Some(judge))
+    } else {
+        Ok(None)
     }
+}
+
+/// The same of lines in whatever order, which are sorted by their MAPs.
+fn judge_sorted<'a>(
+    alloc: Global,
+    config: &'a Config,
+    trace: &'a Trace,
+    maps: &[u8],
+    report: &[u8],
+) -> Result<Judge<'a>, CheckFault>
+    requires rounds { rounds_fit config.now trace.now.rounds ≡ true }
+    requires maps { (ms : List RoundMap) × IsMapsOf maps.now ms }
+    ensures { spec.Reads report.now (λ judge. (ms : List RoundMap) → IsMapsOf maps.now ms →
+        spec.IsOfReport config.now trace.now maps.now report.now ms judge) result }
+{
     let standings = standings(alloc, config, trace, report)?;
-    let mut sorted = Judge::new(alloc, config, trace)?;
-    take_sorted(&mut sorted, config, trace, maps, report, &standings)?;
-    Ok(sorted)
+    let mut judge = Judge::new(alloc, config, trace)?;
+    take_sorted(&mut judge, config, trace, maps, report, &standings)?;
+    Ok(judge)
 }
 
 /// Tells a judge the lines of a report as they stand, up to the first that comes too late. Answers whether these were all.

@@ -1,5 +1,5 @@
 -- What bursts of any bytes cost: codewords that fill whole minislots cost as much beside any others.
-use Rattle.std.proofs.Common.{◌^◌, ◌≡◌, ℕ, ◌+◌, ◌*◌, ◌/◌, ◌%◌, ◌<◌, ◌≤◌, true, false, arith, refl, ap, sym, ◌∙◌, inl, inr}
+use Rattle.std.proofs.Common.{◌^◌, ◌≡◌, ℕ, ◌+◌, ◌*◌, ◌/◌, ◌%◌, ◌<◌, ◌≤◌, arith, refl, ap, ◌∙◌, inl, inr}
 use Rattle.std.specs.Int.{div_ceil}
 use Rattle.std.proofs.Math.Nat.{div-le_self}
 use Rattle.std.proofs.lemmas.Nat.{mod_below, div-add-mod', div-mul-add, mod-mul-add, mul-le, pow_pos, pow_below}
@@ -7,7 +7,7 @@ use Rattle.std.proofs.lemmas.Bool.{cases_lt, cases_Bool}
 use Rattle.us_slots.specs.Times.{Timing, IsTiming, symbols_per_minislot}
 use Rattle.us_slots.proofs.CodeLemmas.{coded_length-plain, coded_length-fixed, coded_length-shortened, coded_length-most}
 use Rattle.us_slots.proofs.RoundingLemmas.{ceil-least}
-use Rattle.us_slots.specs.Bursts.{BurstProfile, IsBurstProfile, codeword_of, shortened_codeword_of, coded_length, burst_cost}
+use Rattle.us_slots.specs.Bursts.{BurstProfile, IsBurstProfile, codeword_of, coded_length, burst_cost}
 
 -- whole times beside a rest: what a division gives, and what it leaves
 beside : (n x d : ℕ) → 0 < d → ((n * d + x) / d ≡ n + x / d) × ((n * d + x) % d ≡ x % d)

@@ -1,21 +1,12 @@
-use Rattle.std.proofs.Common.{List, refl}
+use Rattle.std.proofs.Common.{List}
 use Rattle.us_lawful.proofs.SameLemmas.{same_filter_map, same_moved}
 use Rattle.us_check.specs.declared.judging.Standing.{Standing}
 use Rattle.us_check.specs.Judges.{AreStandings, line_there, lines_there}
-use Rattle.us_check.proofs.judging.told_judge.Goals as goal
-
-pub take_in_order-requires : goal.take_in_order-requires
-take_in_order-requires c =
-    (c.requires.maps.0, c.in_ok-judge.ensures.told c.args.maps.now c.requires.maps.0 c.requires.maps.1)
-
-pub returns-then-branch : goal.returns-then-branch
-returns-then-branch c = λ ms is.
-    let all = c.in_ok-take_in_order.ensures c.if-branch.true ms (c.in_ok-judge.ensures.told c.args.maps.now ms is) in
-    record { lines = all.0; told = all.0; read = all.1; same = λ f. refl; judge = all.2 }
+use Rattle.us_check.proofs.judging.judge_sorted.Goals as goal
 
 pub take_sorted-requires-clause-told : goal.take_sorted-requires-clause-told
 take_sorted-requires-clause-told c =
-    (c.requires.maps.0, c.in_ok-sorted.ensures.told c.args.maps.now c.requires.maps.0 c.requires.maps.1)
+    (c.requires.maps.0, c.in_ok-judge.ensures.told c.args.maps.now c.requires.maps.0 c.requires.maps.1)
 
 pub returns : goal.returns
 returns c = λ ms is.
@@ -28,5 +19,5 @@ returns c = λ ms is.
       same = same_filter_map (λ s. line_there c.args.report.now s.at) stand.read sorted
           (same_moved stand.read sorted stand.moved);
       judge = rw c.deref.ensures.value at
-          (c.in_ok-take_sorted.ensures ms (c.in_ok-sorted.ensures.told c.args.maps.now ms is));
+          (c.in_ok-take_sorted.ensures ms (c.in_ok-judge.ensures.told c.args.maps.now ms is));
     }
