@@ -23,7 +23,6 @@ use us_round::Row;
 use us_slots::NoMemory;
 
 /// The rules that judge lines, P3 to P6. They are told one line after another, in the order of MAPs.
-#[derive(Drop)]
 pub(crate) struct Judge<'a> {
     /// The first place of a line whose round or channel the run lacks. Behind such a line only the rule of minislots is told.
     pub(crate) lacked: Option<Place>,
@@ -33,6 +32,18 @@ pub(crate) struct Judge<'a> {
     pub(crate) calendar: CalendarLines<'a>,
     /// and those of rates and credits.
     pub(crate) credits: CreditLines<'a>,
+}
+
+/// Gives it up. It is written out so that it is one step wherever it ends.
+impl Drop for Judge<'_> {
+    fn drop(self) {
+        let Judge {
+            lacked: _,
+            regions: _,
+            calendar: _,
+            credits: _,
+        } = self;
+    }
 }
 
 impl<'a> Judge<'a> {

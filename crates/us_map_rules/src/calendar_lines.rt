@@ -21,12 +21,23 @@ use us_round::Row;
 use us_slots::NoMemory;
 
 /// What lines tell of the entries of all calendars, and the first place with one that isn't right by itself.
-#[derive(Drop)]
 pub struct CalendarLines<'a> {
     run: JudgedRun<'a>,
     listed: Listed,
     told: Vec<ToldEntry>,
     first: Option<Place>,
+}
+
+/// Gives it up. It is written out so that it is one step wherever it ends.
+impl Drop for CalendarLines<'_> {
+    fn drop(self) {
+        let CalendarLines {
+            run: _,
+            listed: _,
+            told: _,
+            first: _,
+        } = self;
+    }
 }
 
 impl<'a> Model for CalendarLines<'a> {

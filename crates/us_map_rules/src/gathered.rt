@@ -31,7 +31,6 @@ pub enum Taken {
 
 /// The rule of minislots, told one line after another in the order of MAPs: by round, and then by channel in table order. The
 /// minislots of one MAP are kept at a time, and its elements are read where they stand in the maps file.
-#[derive(Drop)]
 pub struct MapRegions {
     /// The number of the MAP whose lines come.
     number: u64,
@@ -43,6 +42,19 @@ pub struct MapRegions {
     near: usize,
     /// Of the MAPs before it, the number of the first that has a minislot that isn't what it must be, and that minislot.
     first: Option<(u64, u64)>,
+}
+
+/// Gives it up. It is written out so that it is one step wherever it ends.
+impl Drop for MapRegions {
+    fn drop(self) {
+        let MapRegions {
+            number: _,
+            at: _,
+            regions: _,
+            near: _,
+            first: _,
+        } = self;
+    }
 }
 
 impl MapRegions {

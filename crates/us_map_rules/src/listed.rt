@@ -30,11 +30,20 @@ impl Model for ChannelEntry {
 }
 
 /// The entries of all channels, found by what lines tell of them.
-#[derive(Drop)]
 pub(crate) struct Listed {
     entries: Vec<ChannelEntry>,
     // by the keys of entries
     places: Vec<Option<u16>>,
+}
+
+/// Gives it up. It is written out so that it is one step wherever it ends.
+impl Drop for Listed {
+    fn drop(self) {
+        let Listed {
+            entries: _,
+            places: _,
+        } = self;
+    }
 }
 
 impl Model for Listed {

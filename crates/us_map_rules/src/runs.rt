@@ -13,7 +13,6 @@ use us_requests::Trace;
 use us_slots::{NoMemory, QUARTERS_PER_TICK};
 
 /// The run that is judged: its tables, its trace, and who is active in which of its rounds.
-#[derive(Drop)]
 pub(crate) struct JudgedRun<'a> {
     config: &'a Config,
     trace: &'a Trace,
@@ -22,6 +21,19 @@ pub(crate) struct JudgedRun<'a> {
     round_quarters: u64,
     /// and of the run.
     end: u64,
+}
+
+/// Gives it up. It is written out so that it is one step wherever it ends.
+impl Drop for JudgedRun<'_> {
+    fn drop(self) {
+        let JudgedRun {
+            config: _,
+            trace: _,
+            activities: _,
+            round_quarters: _,
+            end: _,
+        } = self;
+    }
 }
 
 impl<'a> Model for JudgedRun<'a> {

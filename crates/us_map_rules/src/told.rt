@@ -28,7 +28,6 @@ pub(crate) struct OpenLine {
 }
 
 /// What lines tell of an entry.
-#[derive(Drop)]
 pub(crate) struct ToldEntry {
     /// Each occurrence with a number below this that comes is named by a line,
     next: u64,
@@ -36,6 +35,17 @@ pub(crate) struct ToldEntry {
     others: Vec<u64>,
     /// Those lines that name an open one.
     open_lines: Vec<OpenLine>,
+}
+
+/// Gives it up. It is written out so that it is one step wherever it ends.
+impl Drop for ToldEntry {
+    fn drop(self) {
+        let ToldEntry {
+            next: _,
+            others: _,
+            open_lines: _,
+        } = self;
+    }
 }
 
 impl Model for ToldEntry {
