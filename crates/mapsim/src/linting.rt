@@ -37,7 +37,7 @@ fn list_files<R: Files>(rt: &R, alloc: Global, listing: &mut Listing<'_>) -> Res
     let path = listing.order.config;
     match read_at_most(rt, alloc, path, Stream::Config, MAX_CONFIG_BYTES)? {
         Some(text) => list_config(rt, alloc, &text, listing),
-        None => listing.refuse(too_long_config(alloc)),
+        None => Ok(listing.add_errors(&[], &too_long_config(alloc)?)?),
     }
 }
 

@@ -12,12 +12,22 @@ use us_verdict_words::{VerdictFile, VerdictFinding};
 use us_warnings::Warnings;
 
 /// The lines that a lint prints, and how the program ends that prints them.
-#[derive(Drop)]
 pub struct Listing<'a> {
     /// The order that asks for it.
     pub order: FileLint<'a>,
     text: String,
     status: Status,
+}
+
+/// Gives it up. It is written out so that it is one step wherever it ends.
+impl Drop for Listing<'_> {
+    fn drop(self) {
+        let Listing {
+            order: _,
+            text: _,
+            status: _,
+        } = self;
+    }
 }
 
 impl<'a> Listing<'a> {
@@ -61,14 +71,6 @@ impl<'a> Listing<'a> {
         }
     }
 
-    /// The errors of the configuration, if memory for them wasn't wanting.
-    pub fn refuse(&mut self, errors: Result<Findings, NoMemory>) -> Result<(), Fault>
-        ensures { OnOk result (self.new.status ≡ status.Refused) }
-    {
-        let errors = errors?;
-        Ok(self.add_errors(&[], &errors)?)
-    }
-
     /// Those of the trace, beside what looks wrong in a configuration with this text.
     pub fn refuse_beside(
         &mut self,
@@ -85,19 +87,6 @@ impl<'a> Listing<'a> {
     /// What looks wrong, beside a configuration with this text.
     pub fn warn(&mut self, warnings: &mut Warnings, config_text: &[u8]) -> Result<(), Fault> {
         Ok(self.add_warnings(warnings.located(config_text)?)?)
-    }
-
-    /// What is wrong in a maps file and a report at these paths, if anything is.
-    pub fn add_verdict(
-        &mut self,
-        maps: &str,
-        report: &str,
-        found: Option<VerdictFinding>,
-    ) -> Result<(), Fault> {
-        match found {
-            Some(finding) => Ok(self.add_broken(maps, report, &finding)?),
-            None => Ok(()),
-        }
     }
 
     /// What is wrong in a maps file and a report at these paths.

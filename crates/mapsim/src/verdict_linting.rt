@@ -30,7 +30,10 @@ pub fn list_verdict<R: Files>(
     };
     let trace = trace_of(alloc, tables, text)?;
     let found = lint_output(rt, alloc, tables.config, &trace, maps, report)?;
-    listing.add_verdict(maps, report, found)
+    match found {
+        Some(finding) => Ok(listing.add_broken(maps, report, &finding)?),
+        None => Ok(()),
+    }
 }
 
 /// What is wrong in a maps file and a report, in the files at these paths; none where they hold.

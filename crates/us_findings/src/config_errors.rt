@@ -52,24 +52,12 @@ fn errors_in(
     ensures { IfOk result (λ findings. findings.first.what ≡ found.Config fault) }
 {
     let drafts = drafts_of(alloc, document, fault);
-    let findings = located(alloc, text, &drafts)?;
-    with_first(alloc, findings, fault, drafts.more)
-}
-
-/// These errors and so many more, the first of this fault before the others.
-fn with_first(
-    alloc: Global,
-    mut findings: Vec<Finding>,
-    fault: ConfigFault,
-    more: usize,
-) -> Result<Findings, NoMemory>
-    ensures { IfOk result (λ findings. findings.first.what ≡ found.Config fault) }
-{
-    let first = take_first(alloc, &mut findings, fault)?;
+    let mut others = located(alloc, text, &drafts)?;
+    let first = take_first(alloc, &mut others, fault)?;
     Ok(Findings {
         first: first.of_config(fault),
-        others: findings,
-        more,
+        others,
+        more: drafts.more,
     })
 }
 

@@ -24,7 +24,6 @@ pub enum What {
 }
 
 /// Something that is wrong, or looks wrong, in a file.
-#[derive(Drop)]
 pub struct Finding {
     /// The file.
     pub source: Source,
@@ -38,8 +37,20 @@ pub struct Finding {
     pub text: String,
 }
 
+/// Gives it up. It is written out so that it is one step wherever it ends.
+impl Drop for Finding {
+    fn drop(self) {
+        let Finding {
+            source: _,
+            what: _,
+            line: _,
+            column: _,
+            text: _,
+        } = self;
+    }
+}
+
 /// The errors of a file.
-#[derive(Drop)]
 pub struct Findings {
     /// That of the fault that the program answers.
     pub first: Finding,
@@ -47,6 +58,17 @@ pub struct Findings {
     pub others: Vec<Finding>,
     /// How many more there are.
     pub more: usize,
+}
+
+/// Gives it up. It is written out so that it is one step wherever it ends.
+impl Drop for Findings {
+    fn drop(self) {
+        let Findings {
+            first: _,
+            others: _,
+            more: _,
+        } = self;
+    }
 }
 
 /// Writes a finding as `12:1: error C3: ` or `12:1: warning: ` and its text.
@@ -83,13 +105,11 @@ impl Finding {
     }
 
     /// The same, as this fault of the configuration.
-    pub(crate) fn of_config(self, fault: ConfigFault) -> Finding
+    pub(crate) fn of_config(mut self, fault: ConfigFault) -> Finding
         ensures { result.what ≡ Config fault }
     {
-        Finding {
-            what: What::Config(fault),
-            ..self
-        }
+        self.what = What::Config(fault);
+        self
     }
 }
 

@@ -93,10 +93,8 @@ fn same_start(one: &[u8], other: &[u8]) -> usize {
 
 /// Whether the first two letters are swapped, and all others the same.
 fn are_swapped(one: &[u8], other: &[u8]) -> bool {
-    match (one, other) {
-        ([a, b, one @ ..], [c, d, other @ ..]) => *a == *d && *b == *c && one == other,
-        _ => false,
-    }
+    let both = (one.first() == other.get(1)) & (other.first() == one.get(1));
+    both & (behind(one, 2) == behind(other, 2))
 }
 
 /// Which tables have a key.

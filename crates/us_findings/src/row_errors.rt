@@ -2,128 +2,88 @@ use crate::rows::Rows;
 use crate::sentences::Sentence;
 use crate::shown::Shown;
 use csv::ByteRecord;
+use std::alloc::{AllocError, Global};
 use std::fmt;
 use us_requests::{
     MAX_CHANNEL, MAX_DIGITS, MAX_KIND, MAX_RECORDS, MAX_SID, MAX_TICK, MAX_UNITS, TraceFault,
     number_in,
 };
 
-/// What is wanted of the columns of a trace, and the greatest numbers of their fields.
+/// The columns of a trace, and the greatest numbers of their fields.
 static COLUMNS: [(&str, u32); 5] = [
-    ("tick: a whole number from 0 to #", MAX_TICK),
-    ("channel: a whole number from 0 to #", MAX_CHANNEL),
-    ("sid: a whole number from 0 to #", MAX_SID),
-    ("units: a whole number from 0 to #", MAX_UNITS),
-    ("kind: a whole number from 0 to #", MAX_KIND),
+    ("tick", MAX_TICK),
+    ("channel", MAX_CHANNEL),
+    ("sid", MAX_SID),
+    ("units", MAX_UNITS),
+    ("kind", MAX_KIND),
 ];
 
-/// What is wrong with a record.
+/// A part of a record as a finding shows it, in quotes.
 #[derive(Clone, Copy)]
-pub(crate) struct RowError<'a> {
-    /// What is wanted.
-    wanted: Sentence,
-    more: Sentence,
-    /// The kind of a mark.
-    kind: Shown<'a>,
-    /// What stands there, in quotes, between words.
-    found: Shown<'a>,
-    quote: &'static str,
-    around: [&'static str; 2],
-}
+struct Quoted<'a>(&'a [u8]);
 
-impl fmt::Display for RowError<'_> {
+impl fmt::Display for Quoted<'_> {
     fn fmt<W: fmt::Write>(&self, f: &mut fmt::Formatter<W>) -> fmt::Result {
-        let quote = self.quote;
-        write!(
-            f,
-            "{}{}{}{}{quote}{}{quote}{}",
-            self.wanted, self.more, self.kind, self.around[0], self.found, self.around[1]
-        )
+        match self.0 {
+            [] => f.write_str("nothing"),
+            part => write!(f, "\"{}\"", Shown(part)),
+        }
     }
 }
 
 /// What is wrong with the record that was read last, which has this fault, behind a header of so many columns.
-pub(crate) fn row_error<'a>(rows: &'a Rows<'_>, columns: usize, fault: TraceFault) -> RowError<'a> {
+pub(crate) fn row_error(
+    alloc: Global,
+    rows: &Rows<'_>,
+    columns: usize,
+    fault: TraceFault,
+) -> Result<String, AllocError> {
     match fault {
-        TraceFault::Header => RowError::of(
-            Sentence::plain(
-                "tick,channel,sid,units or tick,channel,sid,units,kind is wanted as the first row",
-            ),
-            rows.first_line(),
-            [", ", " is there"],
+        TraceFault::Header => format!(in alloc;
+            "tick,channel,sid,units or tick,channel,sid,units,kind is wanted as the first row, {} is there",
+            Quoted(rows.first_line())
         ),
-        TraceFault::Fields(_) => RowError::of(
-            Sentence(
-                "# fields are wanted, as in the header, # are there",
-                [columns as u64, rows.fields().len() as u64, 0, 0],
-            ),
-            rows.first_line(),
-            [": ", ""],
+        TraceFault::Fields(_) => format!(in alloc;
+            "{columns} fields are wanted, as in the header, {} are there: {}",
+            rows.fields().len(),
+            Quoted(rows.first_line())
         ),
-        TraceFault::Number(_) => number_error(rows.fields()),
-        TraceFault::TooLarge | TraceFault::Read | TraceFault::NoMemory => RowError {
-            found: Shown(b""),
-            ..RowError::of(
-                Sentence::of(
-                    "at most # rows are wanted, the header among them, this is one more",
-                    u64::from(MAX_RECORDS),
-                ),
-                b"",
-                ["", ""],
-            )
-        },
+        TraceFault::Number(_) => number_error(alloc, rows.fields()),
+        TraceFault::TooLarge | TraceFault::Read | TraceFault::NoMemory => format!(in alloc;
+            "at most {MAX_RECORDS} rows are wanted, the header among them, this is one more"
+        ),
     }
 }
 
 /// A field is no number in its range; or all are, and the record is a mark and has units.
-fn number_error(fields: &ByteRecord) -> RowError<'_> {
-    for (place, (words, greatest)) in COLUMNS.iter().enumerate() {
+fn number_error(alloc: Global, fields: &ByteRecord) -> Result<String, AllocError> {
+    for (place, (column, greatest)) in COLUMNS.iter().enumerate() {
         match fields.get(place) {
             Some(field) if number_in(field, *greatest).is_none() => {
-                return field_error(Sentence::of(words, u64::from(*greatest)), field);
+                return field_error(alloc, column, *greatest, field);
             }
             _ => {}
         }
     }
-    mark_error(fields)
+    format!(in alloc;
+        "units: 0 is wanted of a mark, which is a row of kind {}, {} is there",
+        Shown(fields.get(4).unwrap_or(&[])),
+        Quoted(fields.get(3).unwrap_or(&[]))
+    )
 }
 
 /// A field is no number in its range.
-fn field_error(wanted: Sentence, field: &[u8]) -> RowError<'_> {
-    RowError {
-        more: form_wanted(field),
-        ..RowError::of(wanted, field, [" is wanted, ", " is there"])
-    }
-}
-
-/// A mark has units.
-fn mark_error(fields: &ByteRecord) -> RowError<'_> {
-    RowError {
-        kind: Shown(fields.get(4).unwrap_or(&[])),
-        ..RowError::of(
-            Sentence::plain("units: 0 is wanted of a mark, which is a row of kind "),
-            fields.get(3).unwrap_or(&[]),
-            [", ", " is there"],
-        )
-    }
-}
-
-impl<'a> RowError<'a> {
-    /// This is wanted, and this is there.
-    fn of(wanted: Sentence, there: &'a [u8], around: [&'static str; 2]) -> RowError<'a> {
-        let (found, quote) = match there {
-            [] => (Shown(b"nothing"), ""),
-            text => (Shown(text), "\""),
-        };
-        RowError {
-            wanted,
-            more: Sentence::plain(""),
-            kind: Shown(b""),
-            found,
-            quote,
-            around,
-        }
-    }
+fn field_error(
+    alloc: Global,
+    column: &str,
+    greatest: u32,
+    field: &[u8],
+) -> Result<String, AllocError> {
+    let form = form_wanted(field);
+    format!(in alloc;
+        "{column}: a whole number from 0 to {greatest}{form} is wanted, {} is there",
+        Quoted(field)
+    )
 }
 
 /// What is wanted of a number's digits, where a field lacks it that is no number in its range.

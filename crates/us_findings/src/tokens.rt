@@ -1,7 +1,5 @@
-ghost use Rattle.std.specs.Prelude.{◌<◌};
-
 use std::alloc::Global;
-use toml_parser::text::{first, skip, skip_blank};
+use toml_parser::text::{first, skip_blank};
 use toml_parser::{ErrorKind, Key, ParseError, dotted_key, quoted, starts_string};
 
 /// That a text goes on in another way than the walk over it can follow.
@@ -9,14 +7,23 @@ pub(crate) fn lost(text: &str) -> ParseError {
     ParseError::at(ErrorKind::Content, text)
 }
 
+/// What stands behind the first byte of a text, which is an ASCII character.
+pub(crate) fn past(text: &str) -> &str {
+    match text.split_at_checked(1) {
+        Some((_, rest)) => rest,
+        None => "",
+    }
+}
+
 /// A key at the front of a text, and what stands behind the ASCII character that follows it.
-pub(crate) fn key_before(alloc: Global, text: &str, follows: u8) -> Result<(Key, &str), ParseError>
-    requires some { 0 < follows }
-    requires ascii { follows < 128 }
-{
+pub(crate) fn key_before(
+    alloc: Global,
+    text: &str,
+    follows: u8,
+) -> Result<(Key, &str), ParseError> {
     let (key, rest) = dotted_key(alloc, text)?;
     if first(rest) == follows {
-        Ok((key, skip(rest, 1)))
+        Ok((key, past(rest)))
     } else {
         Err(lost(rest))
     }
@@ -48,7 +55,7 @@ fn behind_token(alloc: Global, text: &str) -> Result<&str, ParseError> {
         return Ok(quoted(alloc, text)?.1);
     }
     match first(text) {
-        b'[' | b']' | b'{' | b'}' | b',' | b'=' => Ok(skip(text, 1)),
+        b'[' | b']' | b'{' | b'}' | b',' | b'=' => Ok(past(text)),
         _ => Ok(behind_words(text)),
     }
 }

@@ -139,8 +139,7 @@ impl Told {
             self.more = self.more.saturating_add(1);
             return Ok(());
         }
-        let error = row_error(rows, columns, fault);
-        let text = format!(in self.alloc; "{error}")?;
+        let text = row_error(self.alloc, rows, columns, fault)?;
         self.findings.push(finding(fault, rows.line(), text))?;
         Ok(())
     }

@@ -4,14 +4,14 @@ use us_flows::{Rule, keeps};
 
 /// What a rule wants of a value.
 pub(crate) fn wanted(rule: Rule) -> Sentence {
-    match rule {
+    let (words, [a, b, c, d]) = match rule {
         Rule::Number(least, most) | Rule::OptionalNumber(least, most) => {
-            numbers("a whole number from # to #", [least, most, 0, 0])
+            ("a whole number from # to #", [least, most, 0, 0])
         }
-        Rule::Type => Sentence::plain("2, 3, 4, 5 or 6"),
-        Rule::Unit => Sentence::plain("1, 2, 4, 8 or 16"),
-        Rule::Flag => Sentence::plain("true or false"),
-        Rule::Numbers(fewest, many, least, most) => numbers(
+        Rule::Type => ("2, 3, 4, 5 or 6", [0; 4]),
+        Rule::Unit => ("1, 2, 4, 8 or 16", [0; 4]),
+        Rule::Flag => ("true or false", [0; 4]),
+        Rule::Numbers(fewest, many, least, most) => (
             of_length(
                 fewest == many,
                 "a list of whole numbers from # to #, of length #,",
@@ -19,7 +19,7 @@ pub(crate) fn wanted(rule: Rule) -> Sentence {
             ),
             [least, most, fewest, many],
         ),
-        Rule::Lists(fewest, many, least, most) => numbers(
+        Rule::Lists(fewest, many, least, most) => (
             of_length(
                 fewest == many,
                 "a list of lists of whole numbers from # to #, of length #,",
@@ -27,25 +27,21 @@ pub(crate) fn wanted(rule: Rule) -> Sentence {
             ),
             [least, most, fewest, many],
         ),
-        Rule::Table => Sentence::plain("a table"),
-        Rule::Tables(fewest, many) => numbers(
+        Rule::Table => ("a table", [0; 4]),
+        Rule::Tables(fewest, many) => (
             "a list of # to # tables, each behind its header in double brackets,",
             [fewest, many, 0, 0],
         ),
-    }
+    };
+    Sentence(
+        words,
+        [u64::from(a), u64::from(b), u64::from(c), u64::from(d)],
+    )
 }
 
 /// The first words of a list that can have one length alone, else the others.
 fn of_length(is_one: bool, one: &'static str, others: &'static str) -> &'static str {
     if is_one { one } else { others }
-}
-
-/// Words with these numbers.
-fn numbers(words: &'static str, [a, b, c, d]: [u32; 4]) -> Sentence {
-    Sentence(
-        words,
-        [u64::from(a), u64::from(b), u64::from(c), u64::from(d)],
-    )
 }
 
 /// What stands behind a value that breaks a rule: which item of a list breaks it, or how many there are.

@@ -1,13 +1,13 @@
-ghost use Rattle.std.specs.Prelude.{◌≡◌, length, IfOk, slice_index};
+ghost use Rattle.std.specs.Prelude.{◌≡◌, length, IfOk};
 ghost use Rattle.std.specs.List.{All};
 ghost use Rattle.us_findings.specs.Places.{IsWithin};
 
-use crate::documents::list_at;
+use crate::documents::{key_of, list_at};
 use crate::scopes::Scope;
 use crate::spots::{Found, KeyPath, Spot};
-use crate::tokens::{behind_value, key_before};
+use crate::tokens::{behind_value, key_before, past};
 use std::alloc::Global;
-use toml_parser::text::{byte_at, first, skip, skip_blank, skip_ws};
+use toml_parser::text::{first, skip_blank, skip_ws};
 use toml_parser::{Key, ParseError};
 use us_flows::{Place, TableName};
 use us_slots::NoMemory;
@@ -34,13 +34,14 @@ fn spots_in(
 {
     let mut spots = Vec::new(alloc);
     for place in 0..count {
-        let spot = match found.get(place) {
-            Some(found) => found.spot,
-            None => Spot::of(0),
-        };
-        spots.push(spot.within(len))?;
+        spots.push(spot_at(found, place).within(len))?;
     }
     Ok(spots)
+}
+
+/// The spot of what is looked for at a place.
+fn spot_at(found: &[Found<'_>], place: usize) -> Spot {
+    found.get(place).map_or(Spot::of(0), |found| found.spot)
 }
 
 /// What a walk over the text finds of these.
@@ -85,7 +86,7 @@ struct Walk<'t, 'w> {
 /// A table in braces, or a list of tables.
 #[derive(Clone, Copy)]
 struct Open {
-    /// The table, or the next one of the list.
+    /// The table, or one of the list.
     scope: Scope,
     is_list: bool,
 }
@@ -108,30 +109,20 @@ impl<'t> Walk<'t, '_> {
     fn step(&mut self, start: &'t str) -> Result<&'t str, ParseError> {
         match self.open.last().copied() {
             Some(open) => self.member(open, start),
-            None if first(start) == b'[' => self.header(start),
+            None if first(start) == b'[' => self.header(past(start)),
             None => self.pair(self.section, start),
         }
     }
 
-    /// A header: what stands behind.
-    fn header(&mut self, start: &'t str) -> Result<&'t str, ParseError>
-        requires { slice_index start.now 0 ≡ 91 }
-    {
-        let is_item = byte_at(start, 1) == b'[';
-        let inside = if is_item {
-            skip(start, 2)
-        } else {
-            skip(start, 1)
-        };
-        let (key, rest) = key_before(self.alloc, skip_ws(inside), b']')?;
-        let spot = Spot::of(self.offset(start));
+    /// A header, behind its first bracket: what stands behind.
+    fn header(&mut self, inside: &'t str) -> Result<&'t str, ParseError> {
+        let spot = Spot::of(self.offset(inside).saturating_sub(1));
+        let is_item = first(inside) == b'[';
+        let name = if is_item { past(inside) } else { inside };
+        let (key, rest) = key_before(self.alloc, skip_ws(name), b']')?;
         let is_next = is_item & key.path.is_empty();
         self.section = self.meet_key(Some(Scope::TOP), &key, spot, is_next);
-        if first(rest) == b']' {
-            Ok(skip(rest, 1))
-        } else {
-            Ok(rest)
-        }
+        Ok(if is_item { past(rest) } else { rest })
     }
 
     /// A key with its value, in a table where something is looked for or not: what stands behind, or inside.
@@ -155,16 +146,11 @@ impl<'t> Walk<'t, '_> {
         value: &'t str,
         rest: &'t str,
     ) -> Result<&'t str, ParseError> {
-        let Some(scope) = inside else {
-            return Ok(rest);
-        };
-        let is_list = match first(value) {
-            b'{' => false,
-            b'[' if scope.profile.is_none() => true,
-            _ => return Ok(rest),
-        };
-        self.open.push(Open { scope, is_list })?;
-        Ok(skip(value, 1))
+        match (inside, first(value)) {
+            (Some(scope), b'{') => self.descend(scope, false, value),
+            (Some(scope), b'[') if scope.profile.is_none() => self.descend(scope, true, value),
+            _ => Ok(rest),
+        }
     }
 
     /// What stands in a table in braces or in a list, or its end.
@@ -172,28 +158,33 @@ impl<'t> Walk<'t, '_> {
         match first(start) {
             b'}' | b']' => {
                 let _ = self.open.pop();
-                Ok(skip(start, 1))
+                Ok(past(start))
             }
-            b',' => Ok(skip(start, 1)),
+            b',' => Ok(past(start)),
             _ if open.is_list => self.item(open.scope, start),
             _ => self.pair(Some(open.scope), start),
         }
     }
 
     /// An item of a list, which may be a table.
-    fn item(&mut self, scope: Scope, start: &'t str) -> Result<&'t str, ParseError> {
-        self.meet(KeyPath::of(scope.place, None), Spot::of(self.offset(start)));
-        if let Some(list) = self.open.last_mut() {
-            list.scope.place.index = scope.place.index.saturating_add(1);
+    fn item(&mut self, list: Scope, start: &'t str) -> Result<&'t str, ParseError> {
+        let spot = Spot::of(self.offset(start));
+        let scope = self.meet_part(Scope::TOP, key_of(list.place.table), spot, true);
+        match scope {
+            Some(scope) if first(start) == b'{' => self.descend(scope, false, start),
+            _ => behind_value(self.alloc, start),
         }
-        if first(start) != b'{' {
-            return behind_value(self.alloc, start);
-        }
-        self.open.push(Open {
-            scope,
-            is_list: false,
-        })?;
-        Ok(skip(start, 1))
+    }
+
+    /// Into brackets that begin here.
+    fn descend(
+        &mut self,
+        scope: Scope,
+        is_list: bool,
+        start: &'t str,
+    ) -> Result<&'t str, ParseError> {
+        self.open.push(Open { scope, is_list })?;
+        Ok(past(start))
     }
 
     /// A key of a table where something is looked for or not: the table that it names, which may be the next one of a list.
