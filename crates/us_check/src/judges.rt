@@ -1,5 +1,4 @@
 ghost use Rattle.std.specs.Prelude.{◌≡◌, ◌++◌, ◌∷◌, [], true, ℕ, List, None, IfOk};
-ghost use Rattle.std.specs.List.Sorted.{IsPermutation};
 ghost use Rattle.us_flows.specs.Tables.{rounds_fit};
 ghost use Rattle.us_output.specs.declared.rows.Row.{Row as ReportRow};
 ghost use Rattle.us_lawful.specs.Runs.{RoundMap, run_in};

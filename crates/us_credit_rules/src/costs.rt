@@ -8,7 +8,7 @@ ghost use Rattle.us_credit_rules.specs.Repeats as lines;
 use us_round::Grant;
 use us_slots::{BurstSet, ChannelTime, Iuc, MAX_BURST_BYTES, Profile, coded_len, grant_cost};
 
-/// The most bytes of a credit that surely fit into a burst of a MAP, behind any header of 8 bits.
+/// The most bytes of a credit whose cost `us_slots` tells, behind any header of 8 bits.
 const MAX_CREDIT: u64 = MAX_BURST_BYTES as u64 - u8::MAX as u64;
 
 /// Whether a line has the minislots and the IUC of a grant of its credit behind a header of so many bytes.

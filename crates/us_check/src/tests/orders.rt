@@ -2,7 +2,7 @@
 //! is tied down by none.
 
 use super::base::{broken, same, verdict_in};
-use crate::Rule;
+use crate::{CheckFault, Rule};
 use us_samples::base;
 
 /// The stored run with a round more, in which nothing is granted.
@@ -21,10 +21,15 @@ static ORDERS: [&str; 3] = [
     "M,2,1,station,7,0,0\nG,1,1,req,1,0,0,291,10,0,32,9\nG,0,1,req,1,0,0,291,10,0,32,9\n",
 ];
 
+/// A line of no report behind lines that turn back.
+static BAD_LINE: &str = "G,2,1,req,1,0,0,291,10,0,32,9\nG,1,1,req,1,0,0,291,10,0,32,9\nG,1\n";
+
 #[test]
 fn lines_in_other_orders(rt: HostRuntime) {
     for report in &ORDERS {
         let found = verdict_in(rt.alloc(), base(), 3, &THREE_MAPS, report);
         same(&rt, &found, &broken(Rule::Minislots, 0, 1, 0), report);
     }
+    let found = verdict_in(rt.alloc(), base(), 3, &THREE_MAPS, BAD_LINE);
+    same(&rt, &found, &Err(CheckFault::Report(3)), BAD_LINE);
 }
