@@ -7,13 +7,15 @@ use crate::runs::{Lengths, flow_with};
 use crate::said::{Said, place_of};
 use crate::sentences::{Name, Sentence, Text};
 use crate::told::told_by;
+use std::alloc::{AllocError, Global};
 use us_bucket::UNITS_PER_BYTE;
 use us_flows::Flow;
 use us_output::Row;
 use us_requests::Trace;
+use us_slots::NoMemory;
 
 /// All clusters of a flow.
-pub(crate) const ALL: [u64; 2] = [0, u64::MAX];
+const ALL: [u64; 2] = [0, u64::MAX];
 
 /// What lines credit to a flow, or to one of its clusters: before a round, and in it.
 #[derive(Clone, Copy)]
@@ -23,8 +25,6 @@ pub(crate) struct Credits {
     /// The bytes in it, and the lines.
     inside: u64,
     lines: Lines,
-    /// The bucket, without what is credited in the round.
-    pub(crate) level: Level,
 }
 
 impl Credits {
@@ -36,18 +36,11 @@ impl Credits {
 }
 
 /// What the lines of a report credit to these clusters of a flow.
-pub(crate) fn credits_of(
-    rows: &[Row],
-    flow: &Flow,
-    clusters: [u64; 2],
-    round_ticks: u64,
-    round: u64,
-) -> Credits {
+pub(crate) fn credits_of(rows: &[Row], flow: &Flow, clusters: [u64; 2], round: u64) -> Credits {
     let [least, most] = clusters;
     let which = Which::Requests(flow.id() as u64, least, most);
     let (mut before, mut inside) = (0_u64, 0_u64);
     let mut lines = Lines::none();
-    let mut level = Level::of_flow(flow, round_ticks);
     for (place, row) in rows.iter().enumerate() {
         let line = told_by(row);
         if which.has(line) {
@@ -56,7 +49,6 @@ pub(crate) fn credits_of(
                 inside = inside.saturating_add(line.credit);
             } else if line.round < round {
                 before = before.saturating_add(line.credit);
-                level = level.spent(line.round, line.credit);
             }
         }
     }
@@ -64,8 +56,42 @@ pub(crate) fn credits_of(
         before,
         inside,
         lines,
-        level,
     }
+}
+
+/// The bucket of a flow behind all that is credited to it before a round. Lines may stand in any order.
+pub(crate) fn level_before(
+    alloc: Global,
+    rows: &[Row],
+    flow: &Flow,
+    round_ticks: u64,
+    round: u64,
+) -> Result<Level, NoMemory> {
+    let credits = credits_before(alloc, rows, flow.id() as u64, round)?;
+    let mut level = Level::of_flow(flow, round_ticks);
+    for (credited, bytes) in &credits {
+        level = level.spent(*credited, *bytes);
+    }
+    Ok(level)
+}
+
+/// The rounds before this one in which something is credited to a flow, each with its bytes, in order.
+fn credits_before(
+    alloc: Global,
+    rows: &[Row],
+    id: u64,
+    round: u64,
+) -> Result<Vec<(u64, u64)>, AllocError> {
+    let which = Which::Requests(id, 0, u64::MAX);
+    let mut credits = Vec::new(alloc);
+    for row in rows {
+        let line = told_by(row);
+        if which.has(line) & (line.round < round) {
+            credits.push((line.round, line.credit))?;
+        }
+    }
+    credits.sort_unstable();
+    Ok(credits)
 }
 
 /// The number of a flow's first word.
@@ -104,44 +130,34 @@ fn asked_in(trace: &Trace, word: u64, round: u32) -> u64 {
 
 /// That a flow is credited more than its rate and its burst allow.
 pub(crate) fn rate_said(
+    alloc: Global,
     flows: &[Flow],
     lengths: Lengths,
     rows: &[Row],
     broken: BrokenRule,
-) -> Said {
+) -> Result<Said, NoMemory> {
     let place = Sentence::new(Text::Flow, [broken.round, broken.place, 0, 0]);
-    match flow_with(flows, broken.place) {
-        Some(flow) => {
-            let credits = credits_of(rows, flow, ALL, lengths.round_ticks, broken.round);
-            let most = credits.level.units_in(broken.round) / UNITS_PER_BYTE as u128;
-            credits.said(place, Sentence::of(Text::Bucket, saturated(most)))
-        }
-        None => Said::at(
-            VerdictFile::Report,
-            place,
-            Sentence::wanted(Name::Flows, 1, 0),
-        ),
-    }
+    let Some(flow) = flow_with(flows, broken.place) else {
+        let none = Sentence::wanted(Name::Flows, 1, 0);
+        return Ok(Said::at(VerdictFile::Report, place, none));
+    };
+    let level = level_before(alloc, rows, flow, lengths.round_ticks, broken.round)?;
+    let most = level.units_in(broken.round) / UNITS_PER_BYTE as u128;
+    let credits = credits_of(rows, flow, ALL, broken.round);
+    Ok(credits.said(place, Sentence::of(Text::Bucket, saturated(most))))
 }
 
 /// That a cluster is credited more in a round than is outstanding.
 pub(crate) fn outstanding_said(
     flows: &[Flow],
     trace: &Trace,
-    lengths: Lengths,
     rows: &[Row],
     broken: BrokenRule,
 ) -> Said {
     if let Some(flow) = flow_with(flows, broken.place) {
         let first = first_word(flows, broken.place);
         for cluster in 0..flow.clusters().len() as u64 {
-            let credits = credits_of(
-                rows,
-                flow,
-                [cluster, cluster],
-                lengths.round_ticks,
-                broken.round,
-            );
+            let credits = credits_of(rows, flow, [cluster, cluster], broken.round);
             let word = first.saturating_add(cluster);
             let asked = asked_within(trace, word, broken.round.saturating_add(1));
             let most = asked.saturating_sub(credits.before);

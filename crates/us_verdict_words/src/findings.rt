@@ -18,6 +18,16 @@ impl VerdictFile {
     }
 }
 
+/// Writes the line of the report and its first column, as `:12:1`, where the finding has a line.
+impl fmt::Display for VerdictFile {
+    fn fmt<W: fmt::Write>(&self, f: &mut fmt::Formatter<W>) -> fmt::Result {
+        match self {
+            VerdictFile::Maps | VerdictFile::Report => Ok(()),
+            VerdictFile::Line(line) => write!(f, ":{line}:1"),
+        }
+    }
+}
+
 /// A broken rule, or a line that is none of a report, in words.
 #[derive(Drop)]
 pub struct VerdictFinding {

@@ -1,14 +1,16 @@
 use crate::calendars::saturated;
-use crate::credits::{ALL, asked_within, credits_of, first_word};
+use crate::credits::{asked_within, credits_of, first_word, level_before};
 use crate::lines::{Lines, Which, lines_of};
 use crate::runs::{Lengths, flow_with};
 use crate::said::{Said, first_other};
 use crate::sentences::{Name, Sentence, Text};
 use crate::told::{Told, Topic};
+use std::alloc::Global;
 use us_activity::Activities;
 use us_flows::Flow;
 use us_output::Row;
 use us_requests::Trace;
+use us_slots::NoMemory;
 
 /// A place of last lines: which lines these are, what they are called, and how many are wanted.
 #[derive(Clone, Copy)]
@@ -20,29 +22,31 @@ struct LastPlace {
 
 /// That a last line is wrong, is missing, or is there twice: of a flow with this id, and with 0 the U line.
 pub(crate) fn last_said(
+    alloc: Global,
     flows: &[Flow],
     trace: &Trace,
     activities: &Activities,
     lengths: Lengths,
     rows: &[Row],
     id: u64,
-) -> Said {
+) -> Result<Said, NoMemory> {
     let [lists, tells] = lines_wanted(flows, id);
     for number in 0..lists.saturating_add(3) {
         let place = place_at(id, lists, tells, number);
         let lines = lines_of(rows, place.which);
         if lines.count as u64 != place.wanted {
-            return Said::count(place.wanted, lines, place.words);
+            return Ok(Said::count(place.wanted, lines, place.words));
         }
         let line = lines.first(rows);
-        let wanted = wanted_of(flows, trace, activities, lengths, rows, line);
+        let wanted = wanted_of(alloc, flows, trace, activities, lengths, rows, line)?;
         let names = names_of(line, wanted);
         if let Some(wrong) = first_other(&names, &wanted, &wanted, &line.last) {
-            return Said::at(lines.file(), place.words, wrong);
+            return Ok(Said::at(lines.file(), place.words, wrong));
         }
     }
     // Nobody comes here: a last line is wrong, or the verdict is another.
-    Said::count(1, Lines::none(), Sentence::of(Text::CountsLine, 0))
+    let words = Sentence::of(Text::CountsLine, 0);
+    Ok(Said::count(1, Lines::none(), words))
 }
 
 /// How many F lines and A lines a flow has; none, if no flow has this id.
@@ -91,51 +95,56 @@ fn place_at(id: u64, lists: u64, tells: u64, number: u64) -> LastPlace {
 
 /// What a last line must tell.
 fn wanted_of(
+    alloc: Global,
     flows: &[Flow],
     trace: &Trace,
     activities: &Activities,
     lengths: Lengths,
     rows: &[Row],
     line: Told,
-) -> [u64; 3] {
-    let counts = trace.counts();
+) -> Result<[u64; 3], NoMemory> {
     match (line.topic, flow_with(flows, line.id)) {
-        (Topic::Final, Some(flow)) => wanted_final(flows, flow, trace, lengths, rows, line),
+        (Topic::Final, Some(flow)) => wanted_final(alloc, flows, flow, trace, lengths, rows, line),
         (Topic::Activity, _) => {
             let word = u16::try_from(first_word(flows, line.id)).unwrap_or(u16::MAX);
             let end = (lengths.rounds as u128).saturating_sub(1);
-            [activities.is_active(word, end) as u64, 0, 0]
+            Ok([activities.is_active(word, end) as u64, 0, 0])
         }
-        (Topic::Counts, _) => [
-            counts.unknown as u64,
-            counts.not_requestable as u64,
-            counts.late as u64,
-        ],
-        _ => line.last,
+        (Topic::Counts, _) => Ok(wanted_counts(trace)),
+        _ => Ok(line.last),
     }
+}
+
+/// What the U line must tell.
+fn wanted_counts(trace: &Trace) -> [u64; 3] {
+    let counts = trace.counts();
+    [
+        counts.unknown as u64,
+        counts.not_requestable as u64,
+        counts.late as u64,
+    ]
 }
 
 /// What an F line of a flow must tell: what is outstanding, whether there are units, and these.
 fn wanted_final(
+    alloc: Global,
     flows: &[Flow],
     flow: &Flow,
     trace: &Trace,
     lengths: Lengths,
     rows: &[Row],
     line: Told,
-) -> [u64; 3] {
-    let (rounds, ticks) = (lengths.rounds, lengths.round_ticks);
+) -> Result<[u64; 3], NoMemory> {
+    let rounds = lengths.rounds;
     let word = first_word(flows, line.id).saturating_add(line.i);
     let asked = asked_within(trace, word, rounds);
-    let credited = credits_of(rows, flow, [line.i, line.i], ticks, rounds).before;
-    let level = credits_of(rows, flow, ALL, ticks, rounds).level;
-    let units = saturated(level.units_in(rounds.saturating_sub(1)));
-    let has_units = flow.rate() != 0;
-    [
-        asked.saturating_sub(credited),
-        has_units as u64,
-        if has_units { units } else { 0 },
-    ]
+    let credited = credits_of(rows, flow, [line.i, line.i], rounds).before;
+    let left = asked.saturating_sub(credited);
+    if flow.rate() == 0 {
+        return Ok([left, 0, 0]);
+    }
+    let level = level_before(alloc, rows, flow, lengths.round_ticks, rounds)?;
+    Ok([left, 1, saturated(level.units_in(rounds.saturating_sub(1)))])
 }
 
 /// What the numbers of a last line are called. That units are wanted, or aren't, is told in words.

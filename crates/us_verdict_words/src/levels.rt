@@ -1,7 +1,7 @@
 use us_bucket::UNITS_PER_BYTE;
 use us_flows::Flow;
 
-/// What the bucket of a flow holds, by lines that stand in the order of rounds. Where they don't, it is taken for full.
+/// What the bucket of a flow holds. Its credits are told in the order of their rounds.
 #[derive(Clone, Copy)]
 pub(crate) struct Level {
     /// By how much it grows from round to round, in units.
@@ -24,12 +24,9 @@ impl Level {
         }
     }
 
-    /// The units in it in a round, or in the last one in which something was credited.
+    /// The units in it in a round that isn't before the last one in which something was credited.
     pub(crate) fn units_in(self, round: u64) -> u128 {
-        if round < self.round {
-            return self.full;
-        }
-        let rounds = (round - self.round) as u128;
+        let rounds = round.saturating_sub(self.round) as u128;
         let grown = rounds.saturating_mul(self.growth);
         self.units.saturating_add(grown).min(self.full)
     }

@@ -158,7 +158,7 @@ fn is_about(line: Told, at: u64, len: u64) -> bool {
     if at == len {
         return len <= line.start;
     }
-    line.start <= at && at - line.start < line.slots
+    (line.start <= at) & (at.saturating_sub(line.start) < line.slots)
 }
 
 /// What is wanted at a minislot: the reserve that has it, or where no line grants it a gap, for all modems, or for nobody

@@ -25,7 +25,10 @@ pub(crate) fn occurrence_said(
         return Ok(said);
     }
     let first = lines_of(rows, Which::Calendar(broken)).first(rows);
-    let unsettled = unsettled_of(alloc, entries, activities, lengths, rows, broken)?;
+    let mut unsettled = unsettled_of(alloc, entries.flow, activities, lengths, rows, broken)?;
+    if unsettled.is_none() {
+        unsettled = unsettled_of(alloc, entries.station, activities, lengths, rows, broken)?;
+    }
     let of = unsettled.unwrap_or(Occurrence {
         topic: first.topic,
         id: first.id,
@@ -120,19 +123,17 @@ fn wrong_with(of: PlacedEntry, interval: Interval, line: Told) -> Option<Sentenc
     }
 }
 
-/// The occurrences of an entry whose windows close in a round: how many there are, from this interval on, and how many of
-/// other entries are counted before them.
+/// The occurrences of an entry whose windows close in a round: how many there are, from this interval on.
 #[derive(Clone, Copy)]
 struct Closing {
     entry: PlacedEntry,
     first: u64,
     count: u64,
-    before: u64,
 }
 
 impl Closing {
     /// Those of an entry, if it is on the channel of a verdict.
-    fn of(entry: PlacedEntry, lengths: Lengths, broken: BrokenRule, before: u64) -> Closing {
+    fn of(entry: PlacedEntry, lengths: Lengths, broken: BrokenRule) -> Closing {
         let first = entry.first_interval(lengths, broken.round);
         let behind = entry.first_interval(lengths, broken.round.saturating_add(1));
         let count = behind.saturating_sub(first).saturating_mul(entry.grants);
@@ -144,11 +145,10 @@ impl Closing {
             } else {
                 0
             },
-            before,
         }
     }
 
-    /// Where the one that a line of its id names is counted; behind all where it names another.
+    /// Where the one that a line of its id names stands among them; behind all where it names another.
     fn place(self, line: Told) -> u64 {
         let entry = self.entry;
         let intervals = line.i.saturating_sub(self.first);
@@ -157,37 +157,34 @@ impl Closing {
             .saturating_add(line.k);
         let is_of = (line.topic == entry.topic) & (self.first <= line.i);
         if is_of & (line.k < entry.grants) & (place < self.count) {
-            self.before.saturating_add(place)
+            place
         } else {
             u64::MAX
         }
     }
 }
 
-/// The first occurrence of these entries on the channel whose window closes in the round, and that hasn't just one line.
+/// The first occurrence of an entry on the channel whose window closes in the round, and that hasn't just one line.
 fn unsettled_of(
     alloc: Global,
-    entries: Entries,
+    entry: PlacedEntry,
     activities: &Activities,
     lengths: Lengths,
     rows: &[Row],
     broken: BrokenRule,
 ) -> Result<Option<Occurrence>, AllocError> {
-    let flow = Closing::of(entries.flow, lengths, broken, 0);
-    let station = Closing::of(entries.station, lengths, broken, flow.count);
-    let count = flow.count.saturating_add(station.count);
-    let mut counts = vec![in alloc; 0_u8; count as usize]?;
-    count_lines(&mut counts, flow, station, rows, broken.place);
-    Ok(first_wrong(&counts, flow, station, activities, lengths, broken.place))
+    let closing = Closing::of(entry, lengths, broken);
+    let mut counts = vec![in alloc; 0_u8; closing.count as usize]?;
+    count_lines(&mut counts, closing, rows, broken.place);
+    Ok(first_wrong(&counts, closing, activities, lengths, broken.place))
 }
 
 /// Counts the lines of an id that name these occurrences.
-fn count_lines(counts: &mut [u8], flow: Closing, station: Closing, rows: &[Row], id: u64) {
+fn count_lines(counts: &mut [u8], closing: Closing, rows: &[Row], id: u64) {
     for row in rows {
         let line = told_by(row);
         if line.id == id {
-            let place = flow.place(line).min(station.place(line));
-            if let Some(count) = counts.get_mut(place as usize) {
+            if let Some(count) = counts.get_mut(closing.place(line) as usize) {
                 *count = count.saturating_add(1);
             }
         }
@@ -197,18 +194,15 @@ fn count_lines(counts: &mut [u8], flow: Closing, station: Closing, rows: &[Row],
 /// The first occurrence that isn't counted once.
 fn first_wrong(
     counts: &[u8],
-    flow: Closing,
-    station: Closing,
+    closing: Closing,
     activities: &Activities,
     lengths: Lengths,
     id: u64,
 ) -> Option<Occurrence> {
+    let entry = closing.entry;
+    let grants = entry.grants.max(1);
     for (place, count) in counts.iter().enumerate() {
         let place = place as u64;
-        let closing = if place < flow.count { flow } else { station };
-        let entry = closing.entry;
-        let grants = entry.grants.max(1);
-        let place = place.saturating_sub(closing.before);
         let (i, k) = (closing.first.saturating_add(place / grants), place % grants);
         if *count != 1 && k <= entry.interval(activities, lengths, i).last_place {
             let topic = entry.topic;

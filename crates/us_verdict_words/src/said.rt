@@ -32,11 +32,13 @@ impl fmt::Display for Said {
 impl Said {
     /// What is wrong at a place, in one sentence.
     pub(crate) fn at(file: VerdictFile, place: Sentence, wrong: Sentence) -> Said {
+        let mut sentences = [NOTHING; 6];
+        sentences[0] = wrong;
         Said {
             file,
             place,
             fault: None,
-            wrong: [wrong, NOTHING, NOTHING, NOTHING, NOTHING, NOTHING],
+            wrong: sentences,
         }
     }
 
@@ -89,7 +91,7 @@ pub(crate) fn first_other(
     for (place, name) in names.iter().enumerate() {
         let (least, most) = (number_at(least, place), number_at(most, place));
         let there = number_at(there, place);
-        if there < least || most < there {
+        if (there < least) | (most < there) {
             return Some(Sentence::between(*name, least, most, there));
         }
     }

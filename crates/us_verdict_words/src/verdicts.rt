@@ -81,14 +81,17 @@ fn said_by(
             let entries = entries_with(alloc, config, lengths, broken.place)?;
             occurrence_said(alloc, entries, activities, lengths, rows, broken)
         }
-        Rule::Rates => Ok(rate_said(flows, lengths, rows, broken)),
+        Rule::Rates => rate_said(alloc, flows, lengths, rows, broken),
         Rule::Credits if broken.channel != 0 => {
             Ok(credit_line_said(flows, channels, rows, broken))
         }
         Rule::Credits if broken.round < lengths.rounds => {
-            Ok(outstanding_said(flows, trace, lengths, rows, broken))
+            Ok(outstanding_said(flows, trace, rows, broken))
         }
-        Rule::Credits => Ok(last_said(flows, trace, activities, lengths, rows, broken.place)),
+        Rule::Credits => {
+            let id = broken.place;
+            last_said(alloc, flows, trace, activities, lengths, rows, id)
+        }
     }
 }
 
