@@ -26,10 +26,14 @@ pub fn lint_files<R: Files, O: Sink>(
     requires { O.failed output.old ≡ false }
     ensures ready { OnOk result (O.failed output.new ≡ false) }
 {
-    let mut listing = Listing::new(alloc, order);
+    let mut listing = Listing {
+        order: *order,
+        text: String::new(alloc),
+        status: Status::Done,
+    };
     list_files(rt, alloc, &mut listing)?;
-    print(output, listing.text())?;
-    Ok(listing.status())
+    print(output, listing.text.as_str().as_bytes())?;
+    Ok(listing.status)
 }
 
 /// Lists what is found in files. Where the configuration has an error, no other file is read.
@@ -37,7 +41,7 @@ fn list_files<R: Files>(rt: &R, alloc: Global, listing: &mut Listing<'_>) -> Res
     let path = listing.order.config;
     match read_at_most(rt, alloc, path, Stream::Config, MAX_CONFIG_BYTES)? {
         Some(text) => list_config(rt, alloc, &text, listing),
-        None => Ok(listing.add_errors(&[], &too_long_config(alloc)?)?),
+        None => listing.add_errors(&[], &too_long_config(alloc)?),
     }
 }
 
@@ -50,7 +54,7 @@ fn list_config<R: Files>(
 ) -> Result<(), Fault> {
     match lint_config(alloc, text)? {
         Ok(config) => list_run(rt, alloc, text, &config, listing),
-        Err(errors) => Ok(listing.add_errors(&[], &errors)?),
+        Err(errors) => listing.add_errors(&[], &errors),
     }
 }
 
@@ -69,7 +73,7 @@ fn list_run<R: Files>(
         rounds,
     };
     let mut warnings = Warnings::new(alloc);
-    warnings.add_tables(text, config, rounds)?;
+    warnings.add_tables(config, rounds)?;
     list_trace(rt, alloc, &tables, &mut warnings, listing)
 }
 

@@ -58,24 +58,27 @@ fn list_rows<R: Files>(
     let mut seen = SeenRows::new(alloc, tables.config, tables.rounds);
     match lint_trace(alloc, text, &mut seen)? {
         Some(errors) => listing.refuse_beside(warnings, tables.text, Ok(errors)),
-        None => {
-            list_verdict(rt, alloc, tables, text, listing)?;
-            list_seen(tables, &seen, warnings, listing)
-        }
+        None => list_accepted(rt, alloc, tables, text, &seen, warnings, listing),
     }
 }
 
-/// Lists what looks wrong where the rows of the trace have no error.
-fn list_seen(
+/// The same, where its rows have no error.
+fn list_accepted<R: Files>(
+    rt: &R,
+    alloc: Global,
     tables: &Tables<'_>,
+    text: &[u8],
     seen: &SeenRows<'_>,
     warnings: &mut Warnings,
     listing: &mut Listing<'_>,
-) -> Result<(), Fault> {
+) -> Result<(), Fault>
+    requires { rounds_fit tables.now.config.now tables.now.rounds ≡ true }
+{
+    list_verdict(rt, alloc, tables, text, listing)?;
     seen.warn(warnings);
     listing.warn(warnings, tables.text)?;
     match (listing.order.rounds, seen.rounds_for_all()) {
-        (None, Some(rounds)) => Ok(listing.add_note(rounds)?),
+        (None, Some(rounds)) => listing.add_note(rounds),
         _ => Ok(()),
     }
 }

@@ -28,15 +28,28 @@ pub fn list_verdict<R: Files>(
     let (Some(maps), Some(report)) = (listing.order.maps, listing.order.report) else {
         return Ok(());
     };
-    let trace = trace_of(alloc, tables, text)?;
-    let found = lint_output(rt, alloc, tables.config, &trace, maps, report)?;
-    match found {
-        Some(finding) => Ok(listing.add_broken(maps, report, &finding)?),
+    match found_in(rt, alloc, tables, text, maps, report)? {
+        Some(finding) => listing.add_broken(maps, report, &finding),
         None => Ok(()),
     }
 }
 
-/// What is wrong in a maps file and a report, in the files at these paths; none where they hold.
+/// What is wrong in the files at these paths, beside a trace whose text this is; none where they hold.
+fn found_in<R: Files>(
+    rt: &R,
+    alloc: Global,
+    tables: &Tables<'_>,
+    text: &[u8],
+    maps: &str,
+    report: &str,
+) -> Result<Option<VerdictFinding>, Fault>
+    requires { rounds_fit tables.now.config.now tables.now.rounds ≡ true }
+{
+    let trace = trace_of(alloc, tables, text)?;
+    lint_output(rt, alloc, tables.config, &trace, maps, report)
+}
+
+/// The same, beside a trace that was read.
 fn lint_output<R: Files>(
     rt: &R,
     alloc: Global,

@@ -4,4 +4,5 @@ mod base;
 mod compared;
 mod entries;
 mod plain;
+mod rooms;
 mod tables;

@@ -1,4 +1,4 @@
--- Of all MAPs in which a grant could start, it is enough to look at the first, the last, and two behind the first.
+-- Of all MAPs in which a grant could start, it is enough to look at the first three.
 use Rattle.std.proofs.Common.{◌≡◌, ℕ, ◌+◌, ◌*◌, ◌/◌, ◌%◌, ◌<◌, ◌≤◌, ◌==◌, true, false, refl, ap, subst, sym, ◌∙◌, inl, inr, arith}
 use Rattle.std.specs.Prelude.{if◌then◌else◌}
 use Rattle.std.proofs.lemmas.Bool.{cases_Bool, cases_lt, cases_eq, eqb-true, eq-eqb}
@@ -68,8 +68,8 @@ module _ (m : EmptyMaps) (are : AreMaps m) (slots first last : ℕ) (some : 1 �
         fits = record { behind = omega arith; before = omega (arith, room) };
       }
 
-  -- of the two MAPs behind the first one has room, if any that lies whole in the window has
-  of_two : (n : ℕ) → start < n → n < end → HasRoom m n slots first last → (HasRoom m (start + 1) slots first last → ⊥) →
+  -- of the two MAPs behind the first one has room, if one behind both has
+  of_two : (n : ℕ) → start + 2 < n → n ≤ end → HasRoom m n slots first last → (HasRoom m (start + 1) slots first last → ⊥) →
       HasRoom m (start + 2) slots first last
   of_two n above below found none =
       let room : reserve_of m n + slots + m.contention ≤ m.len = omega (arith, found.fits.behind, found.fits.before) in
@@ -83,33 +83,32 @@ module _ (m : EmptyMaps) (are : AreMaps m) (slots first last : ℕ) (some : 1 �
               eq-eqb (n % m.maintenance_every) 0 (subst (λ k. n % k ≡ 0) (sym every) (mod-one n)) in
               absurd (none (whole (start + 1) (omega arith) (omega (arith, above, below))
               (omega (arith, with_reserve m (start + 1) t, with_reserve m n same, room))))
-          | inl more ↦ elim (cases_eq n (start + 1)) [
-            | inl e ↦ absurd (none (subst (λ k. HasRoom m k slots first last) e found))
-            | inr other ↦
-                let after : (start + 2) % m.maintenance_every ≡ 1 =
-                subst (λ k. k % m.maintenance_every ≡ 1) (omega arith)
-                (next_has_none (start + 1) m.maintenance_every more (eqb-true ((start + 1) % m.maintenance_every) 0 t)) in
-                let no : (((start + 2) % m.maintenance_every) == 0) ≡ false = rw after refl in
-                whole (start + 2) (omega arith) (omega (arith, above, below, other))
-                (omega (arith, without m (start + 2) no, room))
-          ]
+          | inl more ↦
+              let after : (start + 2) % m.maintenance_every ≡ 1 =
+              subst (λ k. k % m.maintenance_every ≡ 1) (omega arith)
+              (next_has_none (start + 1) m.maintenance_every more (eqb-true ((start + 1) % m.maintenance_every) 0 t)) in
+              let no : (((start + 2) % m.maintenance_every) == 0) ≡ false = rw after refl in
+              whole (start + 2) (omega arith) (omega (arith, above, below)) (omega (arith, without m (start + 2) no, room))
         ]
       ]
 
-  pub room_in_last : (HasRoom m start slots first last → ⊥) → (HasRoom m end slots first last → ⊥) →
-      (HasRoom m (start + 1) slots first last → ⊥) → (n : ℕ) → HasRoom m n slots first last →
-      HasRoom m (start + 2) slots first last
-  room_in_last no_first no_last no_second n found =
+  pub room_in_third : (HasRoom m start slots first last → ⊥) → (HasRoom m (start + 1) slots first last → ⊥) →
+      (n : ℕ) → HasRoom m n slots first last → HasRoom m (start + 2) slots first last
+  room_in_third no_first no_second n found =
       let inside : found.minislot < n * m.len + m.len = omega (arith, found.fits.before, some) in
       elim (cases_eq n start) [
         | inl e ↦ absurd (no_first (subst (λ k. HasRoom m k slots first last) e found))
-        | inr other ↦ elim (cases_eq n end) [
-          | inl e ↦ absurd (no_last (subst (λ k. HasRoom m k slots first last) e found))
-          | inr another ↦ elim (cases_lt n start) [
-            | inl low ↦ absurd (omega (arith, later n start m.len low, before_first, found.from, inside))
-            | inr high ↦ elim (cases_lt end n) [
-              | inl above ↦ absurd (omega (arith, later end n m.len above, behind_last, found.to, found.fits.behind))
-              | inr below ↦ of_two n (omega (arith, high, other)) (omega (arith, below, another)) found no_second
+        | inr other ↦ elim (cases_eq n (start + 1)) [
+          | inl e ↦ absurd (no_second (subst (λ k. HasRoom m k slots first last) e found))
+          | inr another ↦ elim (cases_eq n (start + 2)) [
+            | inl e ↦ subst (λ k. HasRoom m k slots first last) e found
+            | inr last_one ↦ elim (cases_lt n start) [
+              | inl low ↦ absurd (omega (arith, later n start m.len low, before_first, found.from, inside))
+              | inr high ↦ elim (cases_lt end n) [
+                | inl above ↦ absurd (omega (arith, later end n m.len above, behind_last, found.to, found.fits.behind))
+                | inr below ↦
+                    of_two n (omega (arith, high, other, another, last_one)) (omega (arith, below)) found no_second
+              ]
             ]
           ]
         ]

@@ -57,16 +57,14 @@ impl EmptyMaps {
     }
 
     /// Whether a grant of so many minislots, at least one, has room in a MAP if it starts in one of these, which are
-    /// counted from the start of the run. Of the MAPs that lie whole between the first and the last, two tell of all: one
-    /// of these has no maintenance, or each MAP has.
+    /// counted from the start of the run. Of the MAPs behind the first, two tell of all: one of these has no maintenance, or
+    /// each MAP has.
     pub fn have_room(&self, slots: u32, first: u32, last: u32) -> bool
         requires { 1 ≤ slots }
         ensures { IsTrue result ↔ ((map : ℕ) × spec.HasRoom self.now map slots first last) }
     {
         let from = u64::from(first / self.len);
-        let to = u64::from(last / self.len);
         self.has_room(from, slots, first, last)
-            || self.has_room(to, slots, first, last)
             || self.has_room(from + 1, slots, first, last)
             || self.has_room(from + 2, slots, first, last)
     }

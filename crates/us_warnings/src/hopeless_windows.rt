@@ -127,6 +127,6 @@ impl ClosedWindows {
 
     /// Whether there are none of these.
     pub(crate) fn all_have_hope(&self) -> bool {
-        self.without_minislot.count == 0 && self.without_room.count == 0
+        (self.without_minislot.count == 0) & (self.without_room.count == 0)
     }
 }

@@ -58,10 +58,10 @@ impl LateRows {
     pub(crate) fn look_like_microseconds(&self, config: &Config) -> bool {
         let ticks = u64::from(self.latest) * TICKS / MICROSECONDS;
         let round = round_of(config, ticks as u32);
-        self.late.rows > 0
-            && self.late.rows >= self.asking - self.asking / 2
-            && round < u64::from(self.rounds)
-            && round >= u64::from(self.rounds / 2)
+        let is_half_late = (self.late.rows > 0) & (self.late.rows >= self.asking - self.asking / 2);
+        let is_of_second_half = (round < u64::from(self.rounds))
+            & (round >= u64::from(self.rounds / 2));
+        is_half_late & is_of_second_half
     }
 }
 

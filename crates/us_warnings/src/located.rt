@@ -23,7 +23,7 @@ impl Warnings {
     fn set_lines(&mut self, config_text: &[u8], spots: &[Spot]) {
         for (place, finding) in self.findings.iter_mut().enumerate() {
             if let Some(spot) = spots.get(place) {
-                if finding.source == Source::Config {
+                if let Source::Config = finding.source {
                     let at = spot.at.min(config_text.len());
                     (finding.line, finding.column) = line_and_column(config_text, at);
                 }

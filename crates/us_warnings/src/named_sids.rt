@@ -48,10 +48,11 @@ impl NamedSids {
         if asks {
             return Ok(true);
         }
-        match found {
-            Some(_) => self.unused.add(channel, sid, line, is_new)?,
-            None => self.unknown.add(channel, sid, line, is_new)?,
-        }
+        let refused = match found {
+            Some(_) => &mut self.unused,
+            None => &mut self.unknown,
+        };
+        refused.add(channel, sid, line, is_new)?;
         Ok(false)
     }
 
@@ -136,7 +137,7 @@ impl Refused {
             self.told.push(SidRows { channel, sid, rows })?;
         }
         for told in self.told.iter_mut() {
-            if told.channel == channel && told.sid == sid {
+            if (told.channel == channel) & (told.sid == sid) {
                 told.rows.add(line);
             }
         }

@@ -44,12 +44,14 @@ pub(crate) enum Noun {
     UnknownSid,
     UnusedSid,
     SilentFlow,
-    EntryWithoutMinislot,
-    EntryWithoutRoom,
+    FlowWithoutMinislot,
+    FlowWithoutRoom,
+    StationWithoutMinislot,
+    StationWithoutRoom,
 }
 
 /// These, in the same order: what one of them is called, and several.
-static NOUNS: [[&str; 2]; 10] = [
+static NOUNS: [[&str; 2]; 12] = [
     ["row", "rows, the first here"],
     ["line", "lines"],
     ["window", "windows"],
@@ -71,12 +73,20 @@ static NOUNS: [[&str; 2]; 10] = [
         "more flows that no row of the trace names, the first here",
     ],
     [
-        "more entry with windows in which no minislot begins",
-        "more entries with windows in which no minislot begins, the first here",
+        "more flow with windows in which no minislot begins",
+        "more flows with windows in which no minislot begins, the first here",
     ],
     [
-        "more entry with windows that have no room for a grant",
-        "more entries with windows that have no room for a grant, the first here",
+        "more flow with windows that have no room for a grant",
+        "more flows with windows that have no room for a grant, the first here",
+    ],
+    [
+        "more station with windows in which no minislot begins",
+        "more stations with windows in which no minislot begins, the first here",
+    ],
+    [
+        "more station with windows that have no room for a grant",
+        "more stations with windows that have no room for a grant, the first here",
     ],
 ];
 

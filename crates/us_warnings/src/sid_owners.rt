@@ -38,7 +38,7 @@ fn channel_of(flow: &Flow, sid: u16, channel: Option<u8>) -> Option<u8> {
 fn channel_in(channels: &[u8], sids: &[u16], sid: u16, channel: Option<u8>) -> Option<u8> {
     for (place, its_channel) in channels.iter().enumerate() {
         let is_there = channel.unwrap_or(*its_channel) == *its_channel;
-        if is_there && sids.get(place) == Some(&sid) {
+        if is_there & (sids.get(place) == Some(&sid)) {
             return Some(*its_channel);
         }
     }

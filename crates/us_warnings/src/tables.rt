@@ -12,23 +12,18 @@ use us_slots::NoMemory;
 
 impl Warnings {
     /// Adds what looks wrong in the tables of a configuration, for a run of so many rounds; for the longest run where none
-    /// has so many. `text` is what the configuration was read from. The error is want of memory.
-    pub fn add_tables(
-        &mut self,
-        text: &[u8],
-        config: &Config,
-        rounds: u32,
-    ) -> Result<(), NoMemory> {
+    /// has so many. The error is want of memory.
+    pub fn add_tables(&mut self, config: &Config, rounds: u32) -> Result<(), NoMemory> {
         let run = Run::new(config, rounds);
         push_lead(self, config, &run);
-        push_calendars(text, self, config, &run)
+        push_calendars(self, config, &run)
     }
 }
 
 /// That no row of a trace is in time, since the run ends before the lead does.
 fn push_lead(warnings: &mut Warnings, config: &Config, run: &Run) {
     let first = config.lead_ticks().div_ceil(run.round_ticks);
-    if first < run.rounds || config.clusters() == 0 {
+    if (first < run.rounds) | (config.clusters() == 0) {
         return;
     }
     let (first, last) = (first as u64, run.last_round() as u64);
@@ -45,12 +40,7 @@ fn push_lead(warnings: &mut Warnings, config: &Config, run: &Run) {
 }
 
 /// What looks wrong in the calendars of all channels.
-fn push_calendars(
-    text: &[u8],
-    warnings: &mut Warnings,
-    config: &Config,
-    run: &Run,
-) -> Result<(), NoMemory> {
+fn push_calendars(warnings: &mut Warnings, config: &Config, run: &Run) -> Result<(), NoMemory> {
     let mut seen = SeenCalendars {
         too_much: Tally::new(),
         hopeless: Vec::new(warnings.alloc),
@@ -59,7 +49,8 @@ fn push_calendars(
         seen.add(warnings, config, index, channel, run)?;
     }
     warnings.add_others(&seen.too_much, Noun::BusyChannel);
-    push_windows(text, warnings, &seen.hopeless, run)
+    push_windows(warnings, &mut seen.hopeless, run);
+    Ok(())
 }
 
 /// What was seen in the calendars of some channels.
@@ -88,7 +79,7 @@ impl SeenCalendars {
         if load.is_too_much() {
             push_load(warnings, &mut self.too_much, table, &load, run);
         }
-        Ok(add_hopeless(&mut self.hopeless, config, channel, &entries, run)?)
+        add_hopeless(&mut self.hopeless, config, channel, &entries, run)
     }
 }
 

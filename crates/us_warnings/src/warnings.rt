@@ -83,9 +83,8 @@ impl Warnings {
             column: 1,
             text,
         };
-        if self.findings.push(finding).is_err() || self.paths.push(path).is_err() {
-            self.lacks_memory = true;
-        }
+        self.lacks_memory |= self.findings.push(finding).is_err();
+        self.lacks_memory |= self.paths.push(path).is_err();
     }
 
     /// Adds how many there are that weren't told by themselves.

@@ -6,10 +6,8 @@ use crate::names::TableId;
 use crate::parts::{Noun, Part, Text};
 use crate::runs::Run;
 use crate::warnings::{Key, Subject, Tally, Warnings};
-use std::alloc::{AllocError, Global};
 use us_calendar::{Entry, Kind};
-use us_findings::{KeyPath, Spot, spots_of};
-use us_flows::{Channel, Config};
+use us_flows::{Channel, Config, TableName};
 use us_slots::NoMemory;
 
 /// An entry that has windows which no schedule could grant.
@@ -31,7 +29,7 @@ pub(crate) fn add_hopeless(
     channel: &Channel,
     entries: &[Entry],
     run: &Run,
-) -> Result<(), AllocError>
+) -> Result<(), NoMemory>
     requires { IsChannel config.now channel.now }
 {
     let maps = EmptyMaps::of(config, channel);
@@ -57,76 +55,43 @@ fn table_of(config: &Config, entry: &Entry) -> TableId {
     }
 }
 
-/// Warns of entries that have windows which no schedule could grant. `config_text` is what the tables were read from.
-pub(crate) fn push_windows(
-    config_text: &[u8],
-    warnings: &mut Warnings,
-    hopeless: &[HopelessEntry],
-    run: &Run,
-) -> Result<(), NoMemory> {
-    if hopeless.is_empty() {
-        return Ok(());
+/// The kinds of these warnings: the list of the entries' tables, what their windows lack, and what is counted.
+static KINDS: [(TableName, Lack, Noun); 4] = [
+    (TableName::Flow, Lack::Minislot, Noun::FlowWithoutMinislot),
+    (TableName::Flow, Lack::Room, Noun::FlowWithoutRoom),
+    (
+        TableName::Station,
+        Lack::Minislot,
+        Noun::StationWithoutMinislot,
+    ),
+    (TableName::Station, Lack::Room, Noun::StationWithoutRoom),
+];
+
+/// Warns of entries that have windows which no schedule could grant. The tables of a list stand in the order of their lines.
+pub(crate) fn push_windows(warnings: &mut Warnings, hopeless: &mut [HopelessEntry], run: &Run) {
+    hopeless.sort_unstable_by_key(|entry| entry.table.place.index);
+    for (list, lack, noun) in &KINDS {
+        push_lacking(warnings, hopeless, *list, *lack, *noun, run);
     }
-    let order = order_of(warnings.alloc, config_text, hopeless)?;
-    push_lacking(warnings, hopeless, &order, Lack::Minislot, run);
-    push_lacking(warnings, hopeless, &order, Lack::Room, run);
-    Ok(())
 }
 
-/// Where the tables of these entries stand in the text and the place of each entry among these, in the order of the text.
-fn order_of(
-    alloc: Global,
-    config_text: &[u8],
-    hopeless: &[HopelessEntry],
-) -> Result<Vec<(usize, usize)>, NoMemory> {
-    let paths = paths_of(alloc, hopeless)?;
-    let spots = spots_of(alloc, str::from_utf8(config_text).unwrap_or(""), &paths)?;
-    Ok(sorted(alloc, &spots)?)
-}
-
-/// The keys that are to be mended.
-fn paths_of(
-    alloc: Global,
-    hopeless: &[HopelessEntry],
-) -> Result<Vec<KeyPath<'static>>, AllocError> {
-    let mut paths = Vec::new(alloc);
-    for entry in hopeless {
-        paths.push(Key::JitterUs.path(entry.table.place))?;
-    }
-    Ok(paths)
-}
-
-/// Where these spots are and the place of each among them, sorted.
-fn sorted(alloc: Global, spots: &[Spot]) -> Result<Vec<(usize, usize)>, AllocError> {
-    let mut order = Vec::new(alloc);
-    for (place, spot) in spots.iter().enumerate() {
-        order.push((spot.at, place))?;
-    }
-    order.sort_unstable();
-    Ok(order)
-}
-
-/// Warns of windows that no schedule could grant for this reason.
+/// The same of one kind.
 fn push_lacking(
     warnings: &mut Warnings,
     hopeless: &[HopelessEntry],
-    order: &[(usize, usize)],
+    list: TableName,
     lack: Lack,
+    noun: Noun,
     run: &Run,
 ) {
     let mut tally = Tally::new();
-    for (_, place) in order {
-        if let Some(entry) = hopeless.get(*place) {
-            let windows = entry.windows.hopeless(lack);
-            if windows.count > 0 && tally.add(entry.subject()) {
-                entry.push(warnings, lack, windows, run);
-            }
+    for entry in hopeless {
+        let windows = entry.windows.hopeless(lack);
+        let is_of = (entry.table.place.table == list) & (windows.count > 0);
+        if is_of && tally.add(entry.subject()) {
+            entry.push(warnings, lack, windows, run);
         }
     }
-    let noun = match lack {
-        Lack::Minislot => Noun::EntryWithoutMinislot,
-        Lack::Room => Noun::EntryWithoutRoom,
-    };
     warnings.add_others(&tally, noun);
 }
 

@@ -1,5 +1,0 @@
-//! The tests of `us_warnings`. A crate's tests are proved with its code once more, so these stand in a crate of their own.
-#![tactic(auto)]
-
-#[cfg(test)]
-mod tests;
