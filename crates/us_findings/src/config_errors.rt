@@ -3,13 +3,13 @@ ghost use Rattle.us_findings.specs.ConfigErrors.{IsConfigLint};
 ghost use Rattle.us_findings.specs.declared.findings.What.TheVariants as found;
 
 use crate::documents::TOP;
-use crate::findings::{Finding, Findings, Source, What};
+use crate::findings::{Finding, Findings};
 use crate::lists::Drafts;
 use crate::located::located;
 use crate::rules::explained;
 use crate::spots::KeyPath;
 use crate::tables::add_shapes;
-use crate::texts::{no_document, too_long};
+use crate::texts::{alone, no_document, too_long};
 use std::alloc::Global;
 use toml::Table;
 use us_flows::{Config, ConfigFault, MAX_CONFIG_BYTES};
@@ -52,13 +52,8 @@ fn errors_in(
     ensures { IfOk result (λ findings. findings.first.what ≡ found.Config fault) }
 {
     let drafts = drafts_of(alloc, document, fault);
-    let mut others = located(alloc, text, &drafts)?;
-    let first = take_first(alloc, &mut others, fault)?;
-    Ok(Findings {
-        first: first.of_config(fault),
-        others,
-        more: drafts.more,
-    })
+    let findings = located(alloc, text, &drafts)?;
+    first_of(alloc, findings, drafts.more, fault)
 }
 
 /// What is wrong with a document: why it has this fault, and the shapes of all tables.
@@ -74,23 +69,26 @@ fn drafts_of<'d>(alloc: Global, document: &'d Table, fault: ConfigFault) -> Draf
     drafts
 }
 
-/// Takes the first of these findings that is of this fault.
-fn take_first(
+/// The first of these findings that is of this fault, before the others and how many more there are.
+fn first_of(
     alloc: Global,
-    findings: &mut Vec<Finding>,
+    findings: Vec<Finding>,
+    more: usize,
     fault: ConfigFault,
-) -> Result<Finding, NoMemory> {
-    match place_of(findings, fault) {
-        Some(place) => Ok(findings.remove(place)),
+) -> Result<Findings, NoMemory>
+    ensures { IfOk result (λ findings. findings.first.what ≡ found.Config fault) }
+{
+    let mut others = findings;
+    let Some(place) = place_of(&others, fault) else {
         // Nobody comes here: each fault of a document has a finding.
-        None => Ok(Finding {
-            source: Source::Config,
-            what: What::Config(fault),
-            line: 1,
-            column: 1,
-            text: String::from_str(alloc, fault.sentence())?,
-        }),
-    }
+        let text = String::from_str(alloc, fault.sentence())?;
+        return Ok(alone(alloc, fault, (1, 1), text));
+    };
+    Ok(Findings {
+        first: others.remove(place).of_config(fault),
+        others,
+        more,
+    })
 }
 
 /// The place of the first of these findings that is of this fault.

@@ -4,7 +4,7 @@ use us_flows::ConfigFault;
 use us_requests::TraceFault;
 
 /// A file in which something is found.
-#[derive(Clone, Copy, PartialEq, Eq)]
+#[derive(Clone, Copy)]
 pub enum Source {
     /// The configuration.
     Config,
@@ -101,7 +101,7 @@ impl Finding {
 
     /// What findings are sorted by.
     fn place(&self) -> (bool, usize, usize) {
-        (self.source == Source::Trace, self.line, self.column)
+        (matches!(self.source, Source::Trace), self.line, self.column)
     }
 
     /// The same, as this fault of the configuration.

@@ -61,7 +61,8 @@ impl<'d> Case<'d> {
 
     /// The round is no whole number of minislots.
     fn round_not_multiple(&self) -> Why<'d> {
-        let (minislot, round) = (minislot_ticks(self.table), round_ticks(self.document));
+        let round = number_at(self.document, "round_ticks");
+        let minislot = minislot_ticks(self.table);
         Why {
             key: "minislot_log2",
             sentence: Sentence(
@@ -110,11 +111,6 @@ impl<'d> Case<'d> {
     }
 }
 
-/// The ticks of a round.
-fn round_ticks(document: &Table) -> u64 {
-    number_at(document, "round_ticks")
-}
-
 /// The ticks of a channel's minislot.
 fn minislot_ticks(channel: &Table) -> u64 {
     let log2 = u32::try_from(number_at(channel, "minislot_log2")).unwrap_or(u32::MAX);
@@ -123,6 +119,6 @@ fn minislot_ticks(channel: &Table) -> u64 {
 
 /// The minislots of a channel's MAPs.
 pub(crate) fn map_len(document: &Table, channel: &Table) -> u64 {
-    let len = round_ticks(document).checked_div(minislot_ticks(channel));
-    len.unwrap_or(0)
+    let round = number_at(document, "round_ticks");
+    round.checked_div(minislot_ticks(channel)).unwrap_or(0)
 }

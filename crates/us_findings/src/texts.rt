@@ -21,22 +21,23 @@ pub fn too_long_config(alloc: Global) -> Result<Findings, NoMemory>
 pub(crate) fn too_long(alloc: Global, fault: ConfigFault) -> Result<Findings, NoMemory>
     ensures { IfOk result (λ findings. findings.first.what ≡ found.Config fault) }
 {
-    let finding = Finding {
-        source: Source::Config,
-        what: What::Config(fault),
-        line: 1,
-        column: 1,
-        text: format!(in alloc; "at most {MAX_CONFIG_BYTES} bytes are wanted, more are there")?,
-    };
-    Ok(alone(alloc, finding, fault))
+    let text = format!(in alloc; "at most {MAX_CONFIG_BYTES} bytes are wanted, more are there")?;
+    Ok(alone(alloc, fault, (1, 1), text))
 }
 
-/// One error alone.
-fn alone(alloc: Global, finding: Finding, fault: ConfigFault) -> Findings
+/// One error alone, at a line and a column.
+pub(crate) fn alone(alloc: Global, fault: ConfigFault, at: (usize, usize), text: String) -> Findings
     ensures { result.first.what ≡ found.Config fault }
 {
+    let (line, column) = at;
     Findings {
-        first: finding.of_config(fault),
+        first: Finding {
+            source: Source::Config,
+            what: What::Config(fault),
+            line,
+            column,
+            text,
+        },
         others: Vec::new(alloc),
         more: 0,
     }
@@ -58,15 +59,8 @@ pub(crate) fn no_document(
         Some(span) => span.start.min(text.len()),
         None => 0,
     };
-    let (line, column) = line_and_column(text, at);
-    let finding = Finding {
-        source: Source::Config,
-        what: What::Config(fault),
-        line,
-        column,
-        text: why_none(alloc, text, at, error)?,
-    };
-    Ok(alone(alloc, finding, fault))
+    let why = why_none(alloc, text, at, error)?;
+    Ok(alone(alloc, fault, line_and_column(text, at), why))
 }
 
 /// Why it is none: for a byte that is no UTF-8, or as the reader says it.

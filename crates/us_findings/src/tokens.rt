@@ -2,11 +2,6 @@ use std::alloc::Global;
 use toml_parser::text::{first, skip_blank};
 use toml_parser::{ErrorKind, Key, ParseError, dotted_key, quoted, starts_string};
 
-/// That a text goes on in another way than the walk over it can follow.
-pub(crate) fn lost(text: &str) -> ParseError {
-    ParseError::at(ErrorKind::Content, text)
-}
-
 /// What stands behind the first byte of a text, which is an ASCII character.
 pub(crate) fn past(text: &str) -> &str {
     match text.split_at_checked(1) {
@@ -15,7 +10,7 @@ pub(crate) fn past(text: &str) -> &str {
     }
 }
 
-/// A key at the front of a text, and what stands behind the ASCII character that follows it.
+/// A key at the front of a text, and what stands behind the ASCII character that has to follow it.
 pub(crate) fn key_before(
     alloc: Global,
     text: &str,
@@ -25,7 +20,7 @@ pub(crate) fn key_before(
     if first(rest) == follows {
         Ok((key, past(rest)))
     } else {
-        Err(lost(rest))
+        Err(ParseError::at(ErrorKind::Content, rest))
     }
 }
 
@@ -46,7 +41,7 @@ pub(crate) fn behind_value(alloc: Global, text: &str) -> Result<&str, ParseError
         }
         rest = skip_blank(rest, true);
     }
-    Err(lost(rest))
+    Err(ParseError::at(ErrorKind::Content, rest))
 }
 
 /// What stands behind a string, a sign, or other words.

@@ -4,39 +4,41 @@ use us_flows::{Rule, keeps};
 
 /// What a rule wants of a value.
 pub(crate) fn wanted(rule: Rule) -> Sentence {
-    let (words, [a, b, c, d]) = match rule {
+    match rule {
         Rule::Number(least, most) | Rule::OptionalNumber(least, most) => {
-            ("a whole number from # to #", [least, most, 0, 0])
+            numbered("a whole number from # to #", [least, most, 0, 0])
         }
-        Rule::Type => ("2, 3, 4, 5 or 6", [0; 4]),
-        Rule::Unit => ("1, 2, 4, 8 or 16", [0; 4]),
-        Rule::Flag => ("true or false", [0; 4]),
-        Rule::Numbers(fewest, many, least, most) => (
-            of_length(
+        Rule::Type => Sentence::plain("2, 3, 4, 5 or 6"),
+        Rule::Unit => Sentence::plain("1, 2, 4, 8 or 16"),
+        Rule::Flag => Sentence::plain("true or false"),
+        Rule::Numbers(fewest, many, least, most) => {
+            let words = of_length(
                 fewest == many,
                 "a list of whole numbers from # to #, of length #,",
                 "a list of whole numbers from # to #, of length # to #,",
-            ),
-            [least, most, fewest, many],
-        ),
-        Rule::Lists(fewest, many, least, most) => (
-            of_length(
+            );
+            numbered(words, [least, most, fewest, many])
+        }
+        Rule::Lists(fewest, many, least, most) => {
+            let words = of_length(
                 fewest == many,
                 "a list of lists of whole numbers from # to #, of length #,",
                 "a list of lists of whole numbers from # to #, of length # to #,",
-            ),
-            [least, most, fewest, many],
-        ),
-        Rule::Table => ("a table", [0; 4]),
-        Rule::Tables(fewest, many) => (
+            );
+            numbered(words, [least, most, fewest, many])
+        }
+        Rule::Table => Sentence::plain("a table"),
+        Rule::Tables(fewest, many) => numbered(
             "a list of # to # tables, each behind its header in double brackets,",
             [fewest, many, 0, 0],
         ),
-    };
-    Sentence(
-        words,
-        [u64::from(a), u64::from(b), u64::from(c), u64::from(d)],
-    )
+    }
+}
+
+/// Words with these numbers.
+fn numbered(words: &'static str, numbers: [u32; 4]) -> Sentence {
+    let [a, b, c, d] = numbers;
+    Sentence(words, [a as u64, b as u64, c as u64, d as u64])
 }
 
 /// The first words of a list that can have one length alone, else the others.

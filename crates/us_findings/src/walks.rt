@@ -41,7 +41,10 @@ fn spots_in(
 
 /// The spot of what is looked for at a place.
 fn spot_at(found: &[Found<'_>], place: usize) -> Spot {
-    found.get(place).map_or(Spot::of(0), |found| found.spot)
+    match found.get(place) {
+        Some(found) => found.spot,
+        None => Spot::of(0),
+    }
 }
 
 /// What a walk over the text finds of these.
@@ -92,9 +95,9 @@ struct Open {
 }
 
 impl<'t> Walk<'t, '_> {
-    /// From the start of the text to its end.
+    /// From the start of the text, behind the mark of the order of bytes, to its end.
     fn document(&mut self) -> Result<(), ParseError> {
-        let mut rest = without_mark(self.text);
+        let mut rest = self.text.strip_prefix('\u{feff}').unwrap_or(self.text);
         for _ in 0..self.text.len() {
             rest = skip_blank(rest, true);
             if rest.is_empty() {
@@ -237,9 +240,4 @@ impl<'t> Walk<'t, '_> {
     fn offset(&self, rest: &str) -> usize {
         self.text.len().saturating_sub(rest.len())
     }
-}
-
-/// A text without the mark of the order of bytes at its start.
-fn without_mark(text: &str) -> &str {
-    text.strip_prefix('\u{feff}').unwrap_or(text)
 }
