@@ -53,7 +53,11 @@ impl<'a> Draft<'a> {
         Draft {
             fault: ConfigFault::Range(title.place),
             title,
-            path: title.path_of(key),
+            path: KeyPath {
+                place: title.place,
+                profile: title.profile,
+                key: Some(key),
+            },
             key,
             around: [", ", ": "],
             sentence,
@@ -67,7 +71,8 @@ impl<'a> Draft<'a> {
     pub(crate) fn missing(title: Title, key: &'a str, rule: Rule) -> Draft<'a> {
         let mut draft = Draft::of_key(title, key, wanted(rule), WANTED);
         draft.fault = ConfigFault::Missing(title.place);
-        draft.path = title.path();
+        // A profile stands where its key does.
+        draft.path = KeyPath::of(title.place, title.profile);
         draft.around = [": the key ", " is missing, "];
         draft
     }

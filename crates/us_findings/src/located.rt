@@ -81,7 +81,8 @@ fn behind<'a>(
     let Some((rule, value)) = draft.value else {
         return ("", Shown(b""), beside(text, draft, other));
     };
-    let shown = match value_at(text, spot) {
+    // What stands at several places has no place in the text.
+    let shown = match text.get(spot.from..spot.to).unwrap_or(&[]) {
         [] => kind_of(value).as_bytes(),
         written => written,
     };
@@ -95,9 +96,4 @@ fn beside(text: &[u8], draft: &Draft<'_>, other: Spot) -> Sentence {
     }
     let (line, _) = line_and_column(text, other.at.min(text.len()));
     Sentence::of(", in line #", line as u64)
-}
-
-/// The value that stands at a place, as it is written; nothing where it stands at several.
-fn value_at(text: &[u8], spot: Spot) -> &[u8] {
-    text.get(spot.from..spot.to).unwrap_or(&[])
 }

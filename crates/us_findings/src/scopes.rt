@@ -1,4 +1,3 @@
-use crate::spots::KeyPath;
 use us_flows::{Place, TableName};
 
 /// The keys of the profiles of a channel.
@@ -20,23 +19,6 @@ impl Scope {
         },
         profile: None,
     };
-
-    /// The table at a place.
-    pub(crate) fn of(place: Place) -> Scope {
-        Scope {
-            place,
-            profile: None,
-        }
-    }
-
-    /// A key of it.
-    pub(crate) fn path(self, key: &str) -> KeyPath<'_> {
-        KeyPath {
-            place: self.place,
-            profile: self.profile,
-            key: Some(key),
-        }
-    }
 
     /// Its profile with this name; none where it has no profiles.
     pub(crate) fn profile_named(self, name: &str) -> Option<Scope> {

@@ -3,7 +3,7 @@ use crate::drafts::Draft;
 use crate::keys::Keys;
 use crate::lists::Drafts;
 use crate::titles::Title;
-use toml::{Table, Value};
+use toml::Table;
 use us_flows::{is_optional, keeps};
 
 /// A table of a document, beside the keys that it may have.
@@ -19,16 +19,11 @@ impl<'d> Shape<'d> {
     pub(crate) fn add_to(&self, drafts: &mut Drafts<'d>) {
         self.add_missing(drafts);
         for (key, value) in self.table {
-            self.add_wrong(drafts, key, value);
-        }
-    }
-
-    /// Adds what is wrong with a key and its value, if something is.
-    fn add_wrong(&self, drafts: &mut Drafts<'d>, key: &'d str, value: &'d Value) {
-        match self.keys.rule_of(key) {
-            Some(rule) if keeps(rule, value) => {}
-            Some(rule) => drafts.push(Draft::wrong(self.title, key, rule, value)),
-            None => drafts.push(Draft::unknown(self.title, key, self.keys, self.table)),
+            match self.keys.rule_of(key) {
+                Some(rule) if keeps(rule, value) => {}
+                Some(rule) => drafts.push(Draft::wrong(self.title, key, rule, value)),
+                None => drafts.push(Draft::unknown(self.title, key, self.keys, self.table)),
+            }
         }
     }
 

@@ -57,22 +57,13 @@ impl Spot {
 /// Something that is looked for, and the spot that stands for it so far.
 #[derive(Clone, Copy)]
 pub(crate) struct Found<'a> {
-    wanted: KeyPath<'a>,
+    pub(crate) wanted: KeyPath<'a>,
     pub(crate) spot: Spot,
     /// Whether it is the thing's own, and not that of its table or profile.
-    is_own: bool,
+    pub(crate) is_own: bool,
 }
 
-impl<'a> Found<'a> {
-    /// Nothing yet: the start of the text.
-    pub(crate) fn nothing(wanted: KeyPath<'a>) -> Found<'a> {
-        Found {
-            wanted,
-            spot: Spot::of(0),
-            is_own: false,
-        }
-    }
-
+impl Found<'_> {
     /// Takes the spot of a table or a key that is met, where it has to do with what is wanted. A thing's own first one
     /// stays.
     pub(crate) fn meet(&mut self, met: KeyPath<'_>, spot: Spot) {

@@ -1,5 +1,4 @@
 use crate::sentences::Sentence;
-use crate::spots::KeyPath;
 use us_flows::{Place, TableName};
 
 /// A table, as a finding calls it: `flow 2 (id 3)`, counted from 0 as in fault lines, or `channel 0 (id 1), long`.
@@ -14,11 +13,6 @@ pub(crate) struct Title {
 }
 
 impl Title {
-    /// Where the table stands: a profile by its key.
-    pub(crate) fn path<'a>(self) -> KeyPath<'a> {
-        KeyPath::of(self.place, self.profile)
-    }
-
     /// What it is called, without the profile.
     pub(crate) fn words(self) -> Sentence {
         let words = match (self.place.table, self.id.is_some()) {
@@ -34,14 +28,5 @@ impl Title {
             words,
             [u64::from(self.place.index), self.id.unwrap_or(0), 0, 0],
         )
-    }
-
-    /// Where a key of it stands.
-    pub(crate) fn path_of<'a>(self, key: &'a str) -> KeyPath<'a> {
-        KeyPath {
-            place: self.place,
-            profile: self.profile,
-            key: Some(key),
-        }
     }
 }

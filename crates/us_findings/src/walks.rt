@@ -55,7 +55,11 @@ fn found_in<'w>(
 ) -> Result<Vec<Found<'w>>, NoMemory> {
     let mut found = Vec::new(alloc);
     for path in wanted {
-        found.push(Found::nothing(*path))?;
+        found.push(Found {
+            wanted: *path,
+            spot: Spot::of(0),
+            is_own: false,
+        })?;
     }
     let mut walk = Walk {
         alloc,
@@ -103,18 +107,13 @@ impl<'t> Walk<'t, '_> {
             if rest.is_empty() {
                 break;
             }
-            rest = self.step(rest)?;
+            rest = match self.open.last().copied() {
+                Some(open) => self.member(open, rest),
+                None if first(rest) == b'[' => self.header(past(rest)),
+                None => self.pair(self.section, rest),
+            }?;
         }
         Ok(())
-    }
-
-    /// A header, a key below the last one, or what stands in brackets: what stands behind.
-    fn step(&mut self, start: &'t str) -> Result<&'t str, ParseError> {
-        match self.open.last().copied() {
-            Some(open) => self.member(open, start),
-            None if first(start) == b'[' => self.header(past(start)),
-            None => self.pair(self.section, start),
-        }
     }
 
     /// A header, behind its first bracket: what stands behind.
@@ -207,7 +206,12 @@ impl<'t> Walk<'t, '_> {
 
     /// A part of a key: the table that it names, of a list the last one, or the next one, which stands here.
     fn meet_part(&mut self, scope: Scope, name: &str, spot: Spot, is_next: bool) -> Option<Scope> {
-        self.meet(scope.path(name), spot);
+        let path = KeyPath {
+            place: scope.place,
+            profile: scope.profile,
+            key: Some(name),
+        };
+        self.meet(path, spot);
         if scope.place.table != TableName::Top {
             return scope.profile_named(name);
         }
@@ -215,7 +219,10 @@ impl<'t> Walk<'t, '_> {
         if is_next {
             self.meet(KeyPath::of(place, None), Spot::of(spot.at));
         }
-        Some(Scope::of(place))
+        Some(Scope {
+            place,
+            profile: None,
+        })
     }
 
     /// The last table of the list with this name, or the next one.

@@ -60,7 +60,12 @@ pub(crate) fn record_at(
     let at = file.len().saturating_sub(bytes.len()) as u64;
     let len = record_len(bytes);
     let body = bytes.get(FRONT_BYTES..len).unwrap_or(&[]);
-    let round = round_of(bytes) as u64;
+    let round = u32::from_be_bytes([
+        byte_at(bytes, 0),
+        byte_at(bytes, 1),
+        byte_at(bytes, 2),
+        byte_at(bytes, 3),
+    ]) as u64;
     let channel = byte_at(body, 0) as u64;
     let is_whole = len <= bytes.len();
     let text = if is_whole {
@@ -85,16 +90,6 @@ pub(crate) fn record_at(
         Err(fault) => record.fault = Some(fault),
     }
     Ok(record)
-}
-
-/// The round of the record that begins these bytes.
-fn round_of(bytes: &[u8]) -> u32 {
-    u32::from_be_bytes([
-        byte_at(bytes, 0),
-        byte_at(bytes, 1),
-        byte_at(bytes, 2),
-        byte_at(bytes, 3),
-    ])
 }
 
 /// The element that has a minislot. It reaches to the first one that begins behind that.

@@ -32,8 +32,8 @@ pub(crate) struct HopelessWindows {
 pub(crate) struct ClosedWindows {
     /// How many there are.
     pub(crate) count: u32,
-    without_minislot: HopelessWindows,
-    without_room: HopelessWindows,
+    /// Those that no schedule could grant, by why.
+    hopeless: [HopelessWindows; 2],
 }
 
 /// Those of an entry, in a run that ends after so many quarter microseconds.
@@ -45,8 +45,7 @@ pub(crate) fn closed_windows(
 ) -> ClosedWindows {
     let mut windows = ClosedWindows {
         count: 0,
-        without_minislot: HopelessWindows::new(),
-        without_room: HopelessWindows::new(),
+        hopeless: [NO_WINDOWS; 2],
     };
     for interval in 0..MAX_WINDOWS {
         let Some(start) = start_before(entry, interval, run_quarters) else {
@@ -54,7 +53,7 @@ pub(crate) fn closed_windows(
         };
         windows.count = interval + 1;
         if let Some(lack) = lack_of(entry, time, maps, start) {
-            windows.add(lack, interval, start + entry.jitter);
+            windows.hopeless[lack as usize].add(interval, start + entry.jitter);
         }
     }
     windows
@@ -88,16 +87,14 @@ fn lack_of(entry: &Entry, time: &ChannelTime, maps: &EmptyMaps, start: u32) -> O
     Some(Lack::Room)
 }
 
-impl HopelessWindows {
-    /// None yet.
-    fn new() -> HopelessWindows {
-        HopelessWindows {
-            count: 0,
-            first_interval: 0,
-            first_end: 0,
-        }
-    }
+/// None yet.
+const NO_WINDOWS: HopelessWindows = HopelessWindows {
+    count: 0,
+    first_interval: 0,
+    first_end: 0,
+};
 
+impl HopelessWindows {
     /// One more.
     fn add(&mut self, interval: u32, end: u32) {
         if self.count == 0 {
@@ -109,24 +106,13 @@ impl HopelessWindows {
 }
 
 impl ClosedWindows {
-    /// One more that no schedule could grant.
-    fn add(&mut self, lack: Lack, interval: u32, end: u32) {
-        match lack {
-            Lack::Minislot => self.without_minislot.add(interval, end),
-            Lack::Room => self.without_room.add(interval, end),
-        }
-    }
-
     /// Those that no schedule could grant, for this reason.
     pub(crate) fn hopeless(&self, lack: Lack) -> HopelessWindows {
-        match lack {
-            Lack::Minislot => self.without_minislot,
-            Lack::Room => self.without_room,
-        }
+        self.hopeless[lack as usize]
     }
 
     /// Whether there are none of these.
     pub(crate) fn all_have_hope(&self) -> bool {
-        (self.without_minislot.count == 0) & (self.without_room.count == 0)
+        (self.hopeless[0].count == 0) & (self.hopeless[1].count == 0)
     }
 }

@@ -79,19 +79,12 @@ impl NamedSids {
         false
     }
 
-    /// Whether a row names this SID.
-    fn has(&self, channel: u8, sid: u16) -> bool {
-        match self.named.get(place_of(channel, sid)) {
-            Some(named) => *named > 0,
-            None => false,
-        }
-    }
-
     /// Whether a row names one of the SIDs of a cluster, each of which is on its channel.
     fn have_one(&self, channels: &[u8], sids: &[u16]) -> bool {
         for (place, channel) in channels.iter().enumerate() {
             if let Some(sid) = sids.get(place) {
-                if self.has(*channel, *sid) {
+                let named = self.named.get(place_of(*channel, *sid));
+                if named.copied().unwrap_or(0) > 0 {
                     return true;
                 }
             }

@@ -91,23 +91,13 @@ fn taken_by(kind: SchedulingType) -> (u64, Text) {
 pub(crate) fn push_silent_flows(warnings: &mut Warnings, config: &Config, named: &NamedSids) {
     let mut tally = Tally::new();
     for (index, flow) in config.flows().iter().enumerate() {
-        if flow.kind().makes_requests() && !named.have(flow) {
-            add_silent(
-                warnings,
-                &mut tally,
-                TableId::new(TableName::Flow, index, flow.id()),
-            );
+        let table = TableId::new(TableName::Flow, index, flow.id());
+        let subject = Subject::Key(table.place, Key::Id);
+        let is_silent = flow.kind().makes_requests() && !named.have(flow);
+        if is_silent && tally.add(subject) {
+            let words = "#: no row of the trace names one of its SIDs, so it asks for nothing";
+            warnings.add(subject, words, &[Part::Table(table)]);
         }
     }
     warnings.add_others(&tally, Noun::SilentFlow);
-}
-
-/// That no row names a flow.
-fn add_silent(warnings: &mut Warnings, tally: &mut Tally, flow: TableId) {
-    let subject = Subject::Key(flow.place, Key::Id);
-    if !tally.add(subject) {
-        return;
-    }
-    let words = "#: no row of the trace names one of its SIDs, so it asks for nothing";
-    warnings.add(subject, words, &[Part::Table(flow)]);
 }

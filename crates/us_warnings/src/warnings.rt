@@ -90,7 +90,8 @@ impl Warnings {
     /// Adds how many there are that weren't told by themselves.
     pub(crate) fn add_others(&mut self, tally: &Tally, noun: Noun) {
         if let Some(subject) = tally.first_other {
-            self.add(subject, "#", &[Part::Counted(tally.others(), noun)]);
+            let others = tally.count.saturating_sub(MAX_TOLD) as u64;
+            self.add(subject, "#", &[Part::Counted(others, noun)]);
         }
     }
 }
@@ -122,10 +123,5 @@ impl Tally {
             self.first_other = Some(subject);
         }
         false
-    }
-
-    /// How many aren't told by themselves.
-    fn others(&self) -> u64 {
-        self.count.saturating_sub(MAX_TOLD) as u64
     }
 }

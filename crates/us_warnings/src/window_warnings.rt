@@ -95,20 +95,16 @@ fn push_lacking(
     warnings.add_others(&tally, noun);
 }
 
-/// What is said of an entry with such windows.
-fn words_of(lack: Lack) -> &'static str {
-    match lack {
-        Lack::Minislot => {
-            "#, jitter_us:## no minislot begins in # of ## closed by round #; the first of them, of interval #, counted \
-            from 0, closes in round #; another start_us or a greater jitter_us is wanted"
-        }
-        Lack::Room => {
-            "#, jitter_us: whatever the schedule, there is no room for its grants of ## beside the reserves in # of ## \
-            closed by round #; the first of them, of interval #, counted from 0, closes in round #; another start_us, \
-            a greater jitter_us or smaller reserves are wanted"
-        }
-    }
-}
+/// What is said of an entry with windows in which no minislot begins,
+const NO_MINISLOT: &str =
+    "#, jitter_us:## no minislot begins in # of ## closed by round #; the first of them, of interval #, \
+    counted from 0, closes in round #; another start_us or a greater jitter_us is wanted";
+
+/// and of one with windows that have no room for its grants.
+const NO_ROOM: &str =
+    "#, jitter_us: whatever the schedule, there is no room for its grants of ## beside the reserves in # of \
+    ## closed by round #; the first of them, of interval #, counted from 0, closes in round #; another start_us, a greater \
+    jitter_us or smaller reserves are wanted";
 
 impl HopelessEntry {
     /// The key that is to be mended.
@@ -120,10 +116,22 @@ impl HopelessEntry {
     fn push(&self, warnings: &mut Warnings, lack: Lack, windows: HopelessWindows, run: &Run) {
         let closed = self.windows.count;
         let round = windows.first_end / run.round_quarters();
-        let [grants, activity] = self.grants(lack);
+        // How long grants are, and when there are any, has to do with room alone.
+        let (words, grants, activity) = match lack {
+            Lack::Minislot => (
+                NO_MINISLOT,
+                Part::Text(Text::Nothing),
+                Part::Text(Text::Nothing),
+            ),
+            Lack::Room => (
+                NO_ROOM,
+                Part::Counted(self.slots as u64, Noun::Minislot),
+                when(self.may_be_silent, Text::WhileActive),
+            ),
+        };
         warnings.add(
             self.subject(),
-            words_of(lack),
+            words,
             &[
                 Part::Table(self.table),
                 grants,
@@ -136,17 +144,6 @@ impl HopelessEntry {
                 Part::Number(round as u64),
             ],
         );
-    }
-
-    /// How long its grants are and when it has them, where that has to do with what lacks.
-    fn grants(&self, lack: Lack) -> [Part; 2] {
-        match lack {
-            Lack::Minislot => [Part::Text(Text::Nothing); 2],
-            Lack::Room => [
-                Part::Counted(self.slots as u64, Noun::Minislot),
-                when(self.may_be_silent, Text::WhileActive),
-            ],
-        }
     }
 }
 
