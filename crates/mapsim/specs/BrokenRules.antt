@@ -3,8 +3,8 @@ use Rattle.std.specs.Prelude.{◌≡◌, Option, Some, None, ⊤}
 use Rattle.us_check.specs.Verdicts as checked
 use Rattle.us_check.specs.declared.verdicts.Verdict.{Verdict}
 use Rattle.us_check.specs.declared.verdicts.Verdict.TheVariants as verdict
-use Rattle.us_verdict_words.specs.Codes as told
-use Rattle.us_verdict_words.specs.declared.broken.BrokenRule.{BrokenRule}
+use Rattle.us_lint.specs.Codes as told
+use Rattle.us_lint.specs.declared.broken.BrokenRule.{BrokenRule}
 
 -- it has the rule's code and the three numbers
 abbrev pub IsBrokenRule : Verdict → Option BrokenRule → Type 0

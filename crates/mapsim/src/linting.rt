@@ -12,9 +12,9 @@ use std::rt::Files;
 use us_command_line::FileLint;
 use us_findings::{lint_config, too_long_config};
 use us_flows::{Config, MAX_CONFIG_BYTES};
+use us_lint::Warnings;
 use us_replay::RunFault;
 use us_slots::Sink;
-use us_warnings::Warnings;
 
 /// Prints what is wrong, or looks wrong, in files. The status is that of what was found.
 pub fn lint_files<R: Files, O: Sink>(

@@ -6,9 +6,8 @@ use crate::faults::Fault;
 use crate::statuses::Status;
 use us_command_line::FileLint;
 use us_findings::{Finding, Findings, Source};
+use us_lint::{VerdictFile, VerdictFinding, Warnings};
 use us_slots::NoMemory;
-use us_verdict_words::{VerdictFile, VerdictFinding};
-use us_warnings::Warnings;
 
 /// The lines that a lint prints, and how the program ends that prints them.
 pub struct Listing<'a> {

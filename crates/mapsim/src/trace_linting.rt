@@ -9,9 +9,9 @@ use std::alloc::Global;
 use std::rt::Files;
 use us_findings::{lint_trace, too_long_trace};
 use us_flows::Config;
+use us_lint::{SeenRows, Warnings};
 use us_requests::{MAX_TRACE_BYTES, Trace};
 use us_slots::FromRead;
-use us_warnings::{SeenRows, Warnings};
 
 /// A configuration that is accepted, and the rounds of a run.
 #[derive(Clone, Copy)]

@@ -2,7 +2,7 @@ ghost use Rattle.std.specs.Prelude.{◌≡◌, true};
 ghost use Rattle.us_check.specs.Verdicts as check_spec;
 ghost use Rattle.us_flows.specs.Tables.{rounds_fit};
 ghost use Rattle.mapsim.specs.BrokenRules.{IsBrokenRule};
-ghost use Rattle.us_verdict_words.specs.Codes as words_spec;
+ghost use Rattle.us_lint.specs.Codes as words_spec;
 
 use crate::faults::{Fault, Stream};
 use crate::files::read_bytes;
@@ -12,8 +12,8 @@ use std::alloc::Global;
 use std::rt::Files;
 use us_check::{CheckFault, Rule, Verdict, check};
 use us_flows::Config;
+use us_lint::{BrokenRule, VerdictFinding, report_finding, verdict_finding};
 use us_requests::Trace;
-use us_verdict_words::{BrokenRule, VerdictFinding, report_finding, verdict_finding};
 
 /// Lists what is wrong in the maps file and the report of an order, if it has them, beside a trace whose text this is.
 pub fn list_verdict<R: Files>(
@@ -107,15 +107,15 @@ fn broken_rule(verdict: Verdict) -> Option<BrokenRule>
 }
 
 /// The same rule, for its words.
-fn words_rule(rule: Rule) -> us_verdict_words::Rule
+fn words_rule(rule: Rule) -> us_lint::Rule
     ensures { words_spec.code_of result ≡ check_spec.code_of rule }
 {
     match rule {
-        Rule::Records => us_verdict_words::Rule::Records,
-        Rule::Headings => us_verdict_words::Rule::Headings,
-        Rule::Minislots => us_verdict_words::Rule::Minislots,
-        Rule::Occurrences => us_verdict_words::Rule::Occurrences,
-        Rule::Rates => us_verdict_words::Rule::Rates,
-        Rule::Credits => us_verdict_words::Rule::Credits,
+        Rule::Records => us_lint::Rule::Records,
+        Rule::Headings => us_lint::Rule::Headings,
+        Rule::Minislots => us_lint::Rule::Minislots,
+        Rule::Occurrences => us_lint::Rule::Occurrences,
+        Rule::Rates => us_lint::Rule::Rates,
+        Rule::Credits => us_lint::Rule::Credits,
     }
 }

@@ -1,4 +1,4 @@
-use us_warnings::EmptyMaps;
+use us_lint::EmptyMaps;
 
 /// Small MAPs, in which both reserves have room: others by each number.
 fn maps_of(number: u32) -> EmptyMaps {

@@ -1,9 +1,9 @@
 use crate::broken::BrokenRule;
 use crate::calendars::REQUEST;
 use crate::findings::VerdictFile;
+use crate::lengths::Lengths;
 use crate::lines::{Lines, Which, lines_of};
 use crate::records::record_at;
-use crate::runs::Lengths;
 use crate::said::Said;
 use crate::sentences::{NOTHING, Name, Sentence, Text};
 use crate::told::{Told, told_by};

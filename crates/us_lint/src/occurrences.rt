@@ -1,8 +1,8 @@
 use crate::broken::BrokenRule;
 use crate::calendars::{Entries, Interval, PlacedEntry};
 use crate::findings::VerdictFile;
+use crate::lengths::Lengths;
 use crate::lines::{Occurrence, Which, lines_of};
-use crate::runs::Lengths;
 use crate::said::{Said, first_other, place_of};
 use crate::sentences::{Name, Sentence, Text};
 use crate::told::{Told, told_by};

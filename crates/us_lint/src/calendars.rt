@@ -1,4 +1,4 @@
-use crate::runs::Lengths;
+use crate::lengths::Lengths;
 use crate::told::{STATION, Topic};
 use std::alloc::Global;
 use us_activity::Activities;

@@ -1,7 +1,7 @@
 -- Small inputs, computed by the definitions alone.
 use Rattle.std.specs.Prelude.{◌≡◌, refl}
 use Rattle.std.proofs.Common.{arith}
-use Rattle.us_warnings.specs.Windows.{EmptyMaps, reserve_of, Fits, HasRoom}
+use Rattle.us_lint.specs.Windows.{EmptyMaps, reserve_of, Fits, HasRoom}
 
 -- MAPs of 10 minislots, of which each second begins with 4 of maintenance and each ends with 2 of contention
 abbrev pub maps : EmptyMaps

@@ -1,7 +1,7 @@
 use crate::broken::BrokenRule;
 use crate::findings::VerdictFile;
+use crate::lengths::{channel_with, flow_with};
 use crate::lines::{Which, lines_of};
-use crate::runs::{channel_with, flow_with};
 use crate::said::{Said, first_other, place_of};
 use crate::sentences::{Name, Sentence};
 use crate::told::{Told, told_by};

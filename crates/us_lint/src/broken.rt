@@ -1,5 +1,5 @@
 ghost use Rattle.std.specs.Prelude.{◌≡◌};
-ghost use Rattle.us_verdict_words.specs.Codes.{code_of};
+ghost use Rattle.us_lint.specs.Codes.{code_of};
 
 /// A rule of the checker.
 #[derive(Clone, Copy)]

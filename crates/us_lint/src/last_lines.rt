@@ -1,7 +1,7 @@
 use crate::calendars::saturated;
 use crate::credits::{asked_within, credits_of, first_word, level_before};
+use crate::lengths::{Lengths, flow_with};
 use crate::lines::{Lines, Which, lines_of};
-use crate::runs::{Lengths, flow_with};
 use crate::said::{Said, first_other};
 use crate::sentences::{Name, Sentence, Text};
 use crate::told::{Told, Topic};

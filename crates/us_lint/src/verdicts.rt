@@ -1,5 +1,5 @@
 ghost use Rattle.std.specs.Prelude.{◌≡◌, codes, IfOk};
-ghost use Rattle.us_verdict_words.specs.Codes.{code_of};
+ghost use Rattle.us_lint.specs.Codes.{code_of};
 
 use crate::broken::{BrokenRule, Rule};
 use crate::calendars::entries_with;
@@ -8,11 +8,11 @@ use crate::credits::{outstanding_said, rate_said};
 use crate::findings::{VerdictFile, VerdictFinding};
 use crate::headings::heading_said;
 use crate::last_lines::last_said;
+use crate::lengths::Lengths;
 use crate::lines::line_at;
 use crate::minislots::minislot_said;
 use crate::occurrences::occurrence_said;
 use crate::records::record_said;
-use crate::runs::Lengths;
 use crate::said::Said;
 use crate::told::rows_of;
 use std::alloc::Global;

@@ -1,6 +1,6 @@
 ghost use Rattle.std.specs.Prelude.{◌≡◌, ℕ, ◌+◌, ◌≤◌, ◌<◌, ◌↔◌, IsTrue};
 ghost use Rattle.us_flows.specs.Lawful.{IsChannel};
-ghost use Rattle.us_warnings.specs.Windows as spec;
+ghost use Rattle.us_lint.specs.Windows as spec;
 
 use std::marker::Model;
 use us_flows::{Channel, Config};

@@ -1,8 +1,8 @@
 use Rattle.std.proofs.Common.{◌≡◌, ◌+◌, ◌/◌, true, false, refl, ap, subst, sym, ◌∙◌}
-use Rattle.us_warnings.specs.Windows.{AreMaps, HasRoom}
-use Rattle.us_warnings.proofs.RoomLemmas.{room_in_third}
-use Rattle.us_warnings.proofs.empty_maps.EmptyMaps.have_room.Goals as goal
-use Rattle.us_warnings.proofs.empty_maps.EmptyMaps.have_room.Goals.{then-has_room, else-has_room}
+use Rattle.us_lint.specs.Windows.{AreMaps, HasRoom}
+use Rattle.us_lint.proofs.RoomLemmas.{room_in_third}
+use Rattle.us_lint.proofs.empty_maps.EmptyMaps.have_room.Goals as goal
+use Rattle.us_lint.proofs.empty_maps.EmptyMaps.have_room.Goals.{then-has_room, else-has_room}
 
 -- There is no room in the first MAP and in the one behind it, where the one behind that is looked at.
 pub returns-else-has_room-2 : goal.returns-else-has_room-2

@@ -1,5 +1,5 @@
 ghost use Rattle.std.specs.Prelude.{◌≡◌, ◌+◌, ◌*◌, ◌<◌, IfSome};
-ghost use Rattle.us_warnings.specs.Windows.{CanBeGranted};
+ghost use Rattle.us_lint.specs.Windows.{CanBeGranted};
 
 use crate::empty_maps::EmptyMaps;
 use us_calendar::Entry;

@@ -1,8 +1,8 @@
 ghost use Rattle.std.specs.Prelude.{◌≤◌};
 
 use crate::findings::VerdictFile;
+use crate::lengths::Lengths;
 use crate::records::{behind_records, record_at};
-use crate::runs::Lengths;
 use crate::said::{Said, first_other};
 use crate::sentences::{NOTHING, Name, Sentence, Text};
 use std::alloc::Global;

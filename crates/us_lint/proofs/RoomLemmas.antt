@@ -6,7 +6,7 @@ use Rattle.std.proofs.lemmas.Nat.{mul-le, mod_below, div-add-mod'}
 use Rattle.std.proofs.Math.Nat.{add-mul-mod_self_left, div-add-mod, mod-eq_of_lt, mod-one}
 use Rattle.us_slots.specs.Times.{Timing}
 use Rattle.us_slots.specs.Windows.{StartsWithin, AreEnds}
-use Rattle.us_warnings.specs.Windows.{EmptyMaps, AreMaps, reserve_of, HasRoom, CanBeGranted}
+use Rattle.us_lint.specs.Windows.{EmptyMaps, AreMaps, reserve_of, HasRoom, CanBeGranted}
 
 -- MAPs follow one another
 later : (a b len : ℕ) → a < b → a * len + len ≤ b * len

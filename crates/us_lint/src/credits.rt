@@ -1,9 +1,9 @@
 use crate::broken::BrokenRule;
 use crate::calendars::saturated;
 use crate::findings::VerdictFile;
+use crate::lengths::{Lengths, flow_with};
 use crate::levels::Level;
 use crate::lines::{Lines, Which};
-use crate::runs::{Lengths, flow_with};
 use crate::said::{Said, place_of};
 use crate::sentences::{Name, Sentence, Text};
 use crate::told::told_by;

@@ -1,7 +1,7 @@
 -- The codes of the checker's rules.
 use Rattle.std.specs.Prelude.{ℕ, List, codes}
-use Rattle.us_verdict_words.specs.declared.broken.Rule.{Rule}
-use Rattle.us_verdict_words.specs.declared.broken.Rule.TheVariants as rules
+use Rattle.us_lint.specs.declared.broken.Rule.{Rule}
+use Rattle.us_lint.specs.declared.broken.Rule.TheVariants as rules
 
 abbrev pub code_of : Rule → List ℕ
 code_of rules.Records = codes "P1"
