@@ -35,6 +35,7 @@ readers answer. Status 0: nothing was wrong; 1: something was.
 """
 import argparse
 import collections
+import itertools
 import os
 import pathlib
 import random
@@ -405,8 +406,8 @@ def wrong_looks(lines, tables, trace, rounds):
         ("unknown", rows_told(findings, UNKNOWN), rows.unknown), ("unused", rows_told(findings, UNUSED), rows.unused),
         ("silent", dict.fromkeys(silent), dict.fromkeys(rows.silent)),
     ]
-    for is_empty in False, True:
-        told, wanted = ({key: value for key, value in of.items() if key[2] == is_empty} for of in (windows, lost))
+    for kind in itertools.product(("flow", "station"), (False, True)):
+        told, wanted = ({key: value for key, value in of.items() if (key[0], key[2]) == kind} for of in (windows, lost))
         compared.append(("windows", told, wanted))
     others = sum(int(found.group(1)) for found in map(OTHERS.fullmatch, texts) if found)
     for name, told, wanted in compared:
