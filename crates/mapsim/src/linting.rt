@@ -73,7 +73,7 @@ fn list_run<R: Files>(
         rounds,
     };
     let mut warnings = Warnings::new(alloc);
-    warnings.add_tables(config, rounds)?;
+    warnings.add_tables(config, rounds);
     list_trace(rt, alloc, &tables, &mut warnings, listing)
 }
 

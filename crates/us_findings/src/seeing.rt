@@ -1,8 +1,7 @@
 use us_requests::Request;
-use us_slots::NoMemory;
 
 /// Who is shown the requests of a trace while its rows are read, so that they are read once.
 pub trait SeesRequests {
-    /// One more request, and the line on which its record begins. The error is want of memory.
-    fn see(&mut self, request: &Request, line: usize) -> Result<(), NoMemory>;
+    /// One more request, and the line on which its record begins.
+    fn see(&mut self, request: &Request, line: usize);
 }

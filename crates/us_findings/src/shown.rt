@@ -6,8 +6,8 @@ const MAX_SHOWN: usize = 40;
 /// The most bytes of a character.
 const MAX_CHARACTER: usize = 4;
 
-/// A text of the input as a finding shows it: its first 40 characters, with two dots where there are more. Control
-/// characters and others that aren't seen are escaped, as are bytes that are no UTF-8.
+/// A text of the input as a finding shows it: its first 40 characters, with two dots where there are more. Those that aren't
+/// seen, such as control characters, are escaped, as are bytes that are no UTF-8.
 #[derive(Clone, Copy)]
 pub struct Shown<'a>(pub &'a [u8]);
 
@@ -17,7 +17,10 @@ impl fmt::Display for Shown<'_> {
         for _ in 0..MAX_SHOWN {
             let character = first_character(rest);
             write_first(f, rest, character)?;
-            let length = character.map_or(1, char::len_utf8);
+            let length = match character {
+                Some(character) => character.len_utf8(),
+                None => 1,
+            };
             rest = rest.get(length..).unwrap_or(&[]);
         }
         if rest.is_empty() {
@@ -65,31 +68,17 @@ fn write_first<W: fmt::Write>(
 
 /// The character with which a text begins, if it begins with one.
 fn first_character(text: &[u8]) -> Option<char> {
-    for length in 1..=MAX_CHARACTER {
-        // A text that has fewer bytes has no character either.
-        if let Ok(start) = str::from_utf8(text.get(..length).unwrap_or(&[])) {
-            return start.chars().next();
-        }
+    let start = text.get(..MAX_CHARACTER).unwrap_or(text);
+    match start.utf8_chunks().next() {
+        Some(chunk) => chunk.valid().chars().next(),
+        None => None,
     }
-    None
 }
 
-/// Whether a character isn't seen, or changes how others are seen: of control, of no width, or of the direction of a line.
-fn is_hidden(character: char) -> bool {
-    character.is_control()
-        || matches!(
-            character,
-            '\u{200b}'..='\u{200f}' | '\u{2028}'..='\u{202e}' | '\u{2060}'..='\u{206f}' | '\u{feff}'
-        )
-}
-
-/// Writes a character, one that is hidden as its number.
+/// Writes a character, one that isn't seen by its escape.
 fn write_character<W: fmt::Write>(f: &mut fmt::Formatter<W>, character: char) -> fmt::Result {
     match character {
-        '\n' => f.write_str("\\n"),
-        '\r' => f.write_str("\\r"),
-        '\t' => f.write_str("\\t"),
-        _ if is_hidden(character) => write!(f, "\\u{{{:x}}}", u32::from(character)),
-        _ => f.write_char(character),
+        '"' | '\'' | '\\' => f.write_char(character),
+        _ => write!(f, "{}", character.escape_debug()),
     }
 }

@@ -122,7 +122,7 @@ impl Told {
                 return Ok(());
             }
             match request_of(rows.fields(), columns, number) {
-                Ok(request) => seer.see(&request, rows.line())?,
+                Ok(request) => seer.see(&request, rows.line()),
                 Err(fault) => self.add(rows, columns, fault)?,
             }
         }

@@ -4,7 +4,7 @@
 //!
 //! ```
 //! let mut warnings = Warnings::new(alloc);
-//! warnings.add_tables(&config, rounds)?;
+//! warnings.add_tables(&config, rounds);
 //! let mut seen = SeenRows::new(alloc, &config, rounds); // `lint_trace` shows it the requests of a trace
 //! seen.warn(&mut warnings);
 //! let findings = warnings.located(config_text)?;

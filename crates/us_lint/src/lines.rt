@@ -44,7 +44,10 @@ impl Lines {
     /// What the first one tells.
     pub(crate) fn first(self, rows: &[Row]) -> Told {
         let place = self.numbers[0].wrapping_sub(1);
-        rows.get(place as usize).map_or(NO_LINE, told_by)
+        match rows.get(place as usize) {
+            Some(row) => told_by(row),
+            None => NO_LINE,
+        }
     }
 
     /// What a finding at the first one calls them: `this line and line 12`.
@@ -143,23 +146,16 @@ pub(crate) fn lines_of(rows: &[Row], which: Which) -> Lines {
 
 /// The bytes of the line of this number, from 1, with its line feed.
 pub(crate) fn line_at(report: &[u8], number: u64) -> &[u8] {
-    let mut rest = report;
-    for _ in 1..number {
-        let (_, behind) = first_line(rest);
-        rest = behind;
-    }
-    let (line, _) = first_line(rest);
-    line
-}
-
-/// The line with which bytes begin, with its line feed, and what stands behind it.
-fn first_line(bytes: &[u8]) -> (&[u8], &[u8]) {
-    for (place, byte) in bytes.iter().enumerate() {
+    let (mut line, mut start) = (1_u64, 0);
+    for (place, byte) in report.iter().enumerate() {
         if *byte == b'\n' {
-            return bytes
-                .split_at_checked(place.saturating_add(1))
-                .unwrap_or((bytes, &[]));
+            let end = place.saturating_add(1);
+            if line == number {
+                return report.get(start..end).unwrap_or(&[]);
+            }
+            line = line.saturating_add(1);
+            start = end;
         }
     }
-    (bytes, &[])
+    report.get(start..).unwrap_or(&[])
 }

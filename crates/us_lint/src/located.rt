@@ -7,26 +7,30 @@ impl Warnings {
     /// memory.
     pub fn located(&mut self, config_text: &[u8]) -> Result<&[Finding], NoMemory> {
         if !self.paths.is_empty() {
-            let document = str::from_utf8(config_text).unwrap_or("");
-            let spots = spots_of(self.alloc, document, &self.paths)?;
-            self.set_lines(config_text, &spots);
-            self.paths.clear();
+            self.set_lines(config_text);
         }
-        by_place(&mut self.findings)?;
-        if self.lacks_memory {
+        if self.lacks_memory | by_place(&mut self.findings).is_err() {
             return Err(NoMemory);
         }
         Ok(&self.findings)
     }
 
+    /// Looks for the lines and columns of those of the configuration.
+    fn set_lines(&mut self, config_text: &[u8]) {
+        let document = str::from_utf8(config_text).unwrap_or("");
+        match spots_of(self.alloc, document, &self.paths) {
+            Ok(spots) => self.set_lines_at(config_text, &spots),
+            Err(NoMemory) => self.lacks_memory = true,
+        }
+        self.paths.clear();
+    }
+
     /// Takes the lines and columns at which these spots are, for those of the configuration.
-    fn set_lines(&mut self, config_text: &[u8], spots: &[Spot]) {
+    fn set_lines_at(&mut self, config_text: &[u8], spots: &[Spot]) {
         for (place, finding) in self.findings.iter_mut().enumerate() {
-            if let Some(spot) = spots.get(place) {
-                if let Source::Config = finding.source {
-                    let at = spot.at.min(config_text.len());
-                    (finding.line, finding.column) = line_and_column(config_text, at);
-                }
+            if let (Source::Config, Some(spot)) = (finding.source, spots.get(place)) {
+                let at = spot.at.min(config_text.len());
+                (finding.line, finding.column) = line_and_column(config_text, at);
             }
         }
     }

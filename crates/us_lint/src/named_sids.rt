@@ -23,6 +23,8 @@ pub(crate) struct NamedSids {
     pub(crate) unknown: Refused,
     /// and those with rows of kinds that their flow doesn't take.
     pub(crate) unused: Refused,
+    /// Whether memory was wanting for one of them.
+    pub(crate) lacks_memory: bool,
 }
 
 impl NamedSids {
@@ -31,42 +33,39 @@ impl NamedSids {
             named: Vec::new(alloc),
             unknown: Refused::new(alloc),
             unused: Refused::new(alloc),
+            lacks_memory: false,
         }
     }
 
     /// One more row. Answers whether it asks for something.
-    pub(crate) fn add(
-        &mut self,
-        config: &Config,
-        request: &Request,
-        line: usize,
-    ) -> Result<bool, AllocError> {
+    pub(crate) fn add(&mut self, config: &Config, request: &Request, line: usize) -> bool {
         let (channel, sid) = (request.channel, request.sid);
         let found = config.lookup(channel, sid);
         let asks = asks_for(found, request.kind);
-        let is_new = self.note(place_of(channel, sid), asks)?;
+        let is_new = self.note(place_of(channel, sid), asks);
         if asks {
-            return Ok(true);
+            return true;
         }
         let refused = match found {
             Some(_) => &mut self.unused,
             None => &mut self.unknown,
         };
-        refused.add(channel, sid, line, is_new)?;
-        Ok(false)
+        let is_added = refused.add(channel, sid, line, is_new).is_ok();
+        self.lacks_memory |= !is_added;
+        false
     }
 
     /// Notes how the SID at a place is named once more. Answers whether no row before was one that isn't taken.
-    fn note(&mut self, place: usize, asks: bool) -> Result<bool, AllocError> {
+    fn note(&mut self, place: usize, asks: bool) -> bool {
         if self.named.is_empty() {
-            self.named.resize(CHANNELS * SIDS, 0)?;
+            self.lacks_memory |= self.named.resize(CHANNELS * SIDS, 0).is_err();
         }
         let Some(named) = self.named.get_mut(place) else {
-            return Ok(false);
+            return false;
         };
         let is_new = *named < REFUSED;
         *named = (*named).max(if asks { TAKEN } else { REFUSED });
-        Ok(is_new)
+        is_new
     }
 
     /// Whether a row names a SID of this flow.

@@ -1,3 +1,4 @@
+use us_findings::Sentence;
 use us_flows::{Config, Place, TableName};
 
 /// A table as a warning calls it: its place, and its id.
@@ -15,6 +16,17 @@ impl TableId {
             place: Place { table, index },
             id,
         }
+    }
+
+    /// What it is called.
+    pub(crate) fn title(self) -> Sentence {
+        let words = match self.place.table {
+            TableName::Top => "the top level",
+            TableName::Channel => "channel # (id #)",
+            TableName::Flow => "flow # (id #)",
+            TableName::Station => "station # (id #)",
+        };
+        Sentence(words, [self.place.index as u64, self.id as u64, 0, 0])
     }
 
     /// The flow with this id.

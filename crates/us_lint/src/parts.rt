@@ -1,6 +1,6 @@
 use crate::names::TableId;
 use std::alloc::{AllocError, Global};
-use std::fmt;
+use us_findings::Sentence;
 
 /// What stands among the words of a warning. It holds no reference.
 #[derive(Clone, Copy)]
@@ -52,53 +52,54 @@ pub(crate) enum Noun {
 
 /// These, in the same order: what one of them is called, and several.
 static NOUNS: [[&str; 2]; 12] = [
-    ["row", "rows, the first here"],
-    ["line", "lines"],
-    ["window", "windows"],
-    ["minislot", "minislots"],
+    ["# row", "# rows, the first here"],
+    ["# line", "# lines"],
+    ["# window", "# windows"],
+    ["# minislot", "# minislots"],
     [
-        "more channel whose calendar asks for too much",
-        "more channels whose calendars ask for too much, the first here",
+        "# more channel whose calendar asks for too much",
+        "# more channels whose calendars ask for too much, the first here",
     ],
     [
-        "more SID that no flow has",
-        "more SIDs that no flow has, the first here",
+        "# more SID that no flow has",
+        "# more SIDs that no flow has, the first here",
     ],
     [
-        "more SID with rows of a kind that its flow doesn't take",
-        "more SIDs with rows of kinds that their flows don't take, the first here",
+        "# more SID with rows of a kind that its flow doesn't take",
+        "# more SIDs with rows of kinds that their flows don't take, the first here",
     ],
     [
-        "more flow that no row of the trace names",
-        "more flows that no row of the trace names, the first here",
+        "# more flow that no row of the trace names",
+        "# more flows that no row of the trace names, the first here",
     ],
     [
-        "more flow with windows in which no minislot begins",
-        "more flows with windows in which no minislot begins, the first here",
+        "# more flow with windows in which no minislot begins",
+        "# more flows with windows in which no minislot begins, the first here",
     ],
     [
-        "more flow with windows that have no room for a grant",
-        "more flows with windows that have no room for a grant, the first here",
+        "# more flow with windows that have no room for a grant",
+        "# more flows with windows that have no room for a grant, the first here",
     ],
     [
-        "more station with windows in which no minislot begins",
-        "more stations with windows in which no minislot begins, the first here",
+        "# more station with windows in which no minislot begins",
+        "# more stations with windows in which no minislot begins, the first here",
     ],
     [
-        "more station with windows that have no room for a grant",
-        "more stations with windows that have no room for a grant, the first here",
+        "# more station with windows that have no room for a grant",
+        "# more stations with windows that have no room for a grant, the first here",
     ],
 ];
 
-impl fmt::Display for Part {
-    fn fmt<W: fmt::Write>(&self, f: &mut fmt::Formatter<W>) -> fmt::Result {
-        match *self {
-            Part::Number(number) => write!(f, "{number}"),
-            Part::Text(text) => f.write_str(TEXTS[text as usize]),
-            Part::Table(TableId { place, id }) => write!(f, "{place} (id {id})"),
+impl Part {
+    /// It in words.
+    fn words(self) -> Sentence {
+        match self {
+            Part::Number(number) => Sentence::of("#", number),
+            Part::Text(text) => Sentence::plain(TEXTS[text as usize]),
+            Part::Table(table) => table.title(),
             Part::Counted(count, noun) => {
-                let [one, many] = NOUNS[noun as usize];
-                write!(f, "{count} {}", if count == 1 { one } else { many })
+                let is_one = count == 1;
+                Sentence::of(NOUNS[noun as usize][!is_one as usize], count)
             }
         }
     }
@@ -110,7 +111,7 @@ pub(crate) fn text_of(alloc: Global, words: &str, parts: &[Part]) -> Result<Stri
     let mut rest = words;
     for part in parts {
         let (before, behind) = rest.split_once('#').unwrap_or((rest, ""));
-        write!(text, "{before}{part}")?;
+        write!(text, "{before}{}", part.words())?;
         rest = behind;
     }
     text.push_str(rest)?;

@@ -26,15 +26,12 @@ pub(crate) struct FileRecord {
     pub(crate) element: Sentence,
 }
 
-/// A byte, 0 behind all of them.
-fn byte_at(bytes: &[u8], place: usize) -> u8 {
-    bytes.get(place).copied().unwrap_or(0)
-}
-
 /// How long the record is that begins these bytes, be it whole or not.
 fn record_len(bytes: &[u8]) -> usize {
-    let body = u16::from_be_bytes([byte_at(bytes, 4), byte_at(bytes, 5)]);
-    FRONT_BYTES + body as usize
+    match bytes {
+        [_, _, _, _, high, low, ..] => FRONT_BYTES + u16::from_be_bytes([*high, *low]) as usize,
+        _ => FRONT_BYTES,
+    }
 }
 
 /// What stands behind so many records of a file, or behind its last whole one, and how many stand before it.
@@ -60,13 +57,11 @@ pub(crate) fn record_at(
     let at = file.len().saturating_sub(bytes.len()) as u64;
     let len = record_len(bytes);
     let body = bytes.get(FRONT_BYTES..len).unwrap_or(&[]);
-    let round = u32::from_be_bytes([
-        byte_at(bytes, 0),
-        byte_at(bytes, 1),
-        byte_at(bytes, 2),
-        byte_at(bytes, 3),
-    ]) as u64;
-    let channel = byte_at(body, 0) as u64;
+    let round = match bytes {
+        [a, b, c, d, ..] => u32::from_be_bytes([*a, *b, *c, *d]) as u64,
+        _ => 0,
+    };
+    let channel = body.first().copied().unwrap_or(0) as u64;
     let is_whole = len <= bytes.len();
     let text = if is_whole {
         Text::RecordOfMap

@@ -1,4 +1,5 @@
 use crate::alike::SidRows;
+use crate::lengths::channel_with;
 use crate::named_sids::{NamedSids, Refused};
 use crate::names::TableId;
 use crate::parts::{Noun, Part, Text};
@@ -20,7 +21,7 @@ fn add_unknown(warnings: &mut Warnings, config: &Config, unknown: &SidRows) {
     let channel = Part::Number(unknown.channel as u64);
     let sid = Part::Number(unknown.sid as u64);
     let rows = unknown.rows.counted();
-    if !has_channel(config, unknown.channel) {
+    if channel_with(config.channels(), unknown.channel as u64).is_none() {
         let words = "channel: no channel has id #, which stands with SID #: #";
         return warnings.add(subject, words, &[channel, sid, rows]);
     }
@@ -36,16 +37,6 @@ fn add_unknown(warnings: &mut Warnings, config: &Config, unknown: &SidRows) {
             warnings.add(subject, words, &[sid, channel, rows]);
         }
     }
-}
-
-/// Whether a channel has this id.
-fn has_channel(config: &Config, id: u8) -> bool {
-    for channel in config.channels() {
-        if channel.id == id {
-            return true;
-        }
-    }
-    false
 }
 
 /// SIDs of flows that don't take rows of some kind.

@@ -1,22 +1,21 @@
 ghost use Rattle.us_flows.specs.Lawful.{IsChannel};
 
-use crate::loads::{Load, MAX_ASSIGNMENTS};
+use crate::loads::{Load, MAX_ASSIGNMENTS, MAX_LINE_BYTES, PER_ASSIGNMENT};
 use crate::names::TableId;
 use crate::parts::{Noun, Part};
 use crate::runs::Run;
 use crate::warnings::{Key, Subject, TOP, Tally, Warnings};
 use crate::window_warnings::{HopelessEntry, add_hopeless, push_windows};
-use us_calendar::entries_of;
+use us_calendar::{Entry, entries_of};
 use us_flows::{Channel, Config, TableName};
-use us_slots::NoMemory;
 
 impl Warnings {
     /// Adds what looks wrong in the tables of a configuration, for a run of so many rounds; for the longest run where none
-    /// has so many. The error is want of memory.
-    pub fn add_tables(&mut self, config: &Config, rounds: u32) -> Result<(), NoMemory> {
+    /// has so many.
+    pub fn add_tables(&mut self, config: &Config, rounds: u32) {
         let run = Run::new(config, rounds);
         push_lead(self, config, &run);
-        push_calendars(self, config, &run)
+        push_calendars(self, config, &run);
     }
 }
 
@@ -40,17 +39,19 @@ fn push_lead(warnings: &mut Warnings, config: &Config, run: &Run) {
 }
 
 /// What looks wrong in the calendars of all channels.
-fn push_calendars(warnings: &mut Warnings, config: &Config, run: &Run) -> Result<(), NoMemory> {
+fn push_calendars(warnings: &mut Warnings, config: &Config, run: &Run) {
     let mut seen = SeenCalendars {
         too_much: Tally::new(),
         hopeless: Vec::new(warnings.alloc),
     };
     for (index, channel) in config.channels().iter().enumerate() {
-        seen.add(warnings, config, index, channel, run)?;
+        match entries_of(warnings.alloc, config, channel) {
+            Ok(entries) => seen.add(warnings, config, index, channel, &entries, run),
+            Err(_) => warnings.lacks_memory = true,
+        }
     }
     warnings.add_others(&seen.too_much, Noun::BusyChannel);
     push_windows(warnings, &mut seen.hopeless, run);
-    Ok(())
 }
 
 /// What was seen in the calendars of some channels.
@@ -62,24 +63,25 @@ struct SeenCalendars {
 }
 
 impl SeenCalendars {
-    /// One more channel, at this index of the table.
+    /// One more channel, at this index of the table, with these entries of its calendar.
     fn add(
         &mut self,
         warnings: &mut Warnings,
         config: &Config,
         index: usize,
         channel: &Channel,
+        entries: &[Entry],
         run: &Run,
-    ) -> Result<(), NoMemory>
+    )
         requires { IsChannel config.now channel.now }
     {
-        let entries = entries_of(warnings.alloc, config, channel)?;
         let table = TableId::new(TableName::Channel, index, channel.id as u16);
-        let load = Load::of(&entries, run);
+        let load = Load::of(entries, run);
         if load.is_too_much() {
             push_load(warnings, &mut self.too_much, table, &load, run);
         }
-        add_hopeless(&mut self.hopeless, config, channel, &entries, run)
+        let are_added = add_hopeless(&mut self.hopeless, config, channel, entries, run).is_ok();
+        warnings.lacks_memory |= !are_added;
     }
 }
 
@@ -95,11 +97,11 @@ fn push_load(warnings: &mut Warnings, tally: &mut Tally, channel: TableId, load:
         # have room; the report of rounds up to # has at most # of it, # bytes",
         &[
             Part::Table(channel),
-            Part::Number(load.assignments()),
+            Part::Number(load.thousandths / PER_ASSIGNMENT),
             Part::Number(MAX_ASSIGNMENTS),
             Part::Number(run.last_round() as u64),
             Part::Counted(load.lines, Noun::Line),
-            Part::Number(load.bytes()),
+            Part::Number(load.lines.saturating_mul(MAX_LINE_BYTES)),
         ],
     );
 }

@@ -11,7 +11,6 @@ use std::alloc::Global;
 use us_findings::SeesRequests;
 use us_flows::Config;
 use us_requests::Request;
-use us_slots::NoMemory;
 
 /// What was seen in the rows of a trace, beside its configuration and for a run of so many rounds.
 #[derive(Drop)]
@@ -38,6 +37,7 @@ impl<'a> SeenRows<'a> {
     /// Adds what looks wrong in them, and in the configuration beside them.
     pub fn warn(&self, warnings: &mut Warnings) {
         let config = self.config;
+        warnings.lacks_memory |= self.named.lacks_memory;
         push_unknown(warnings, config, &self.named.unknown);
         push_unused(warnings, config, &self.named.unused);
         push_silent_flows(warnings, config, &self.named);
@@ -55,11 +55,10 @@ impl<'a> SeenRows<'a> {
 }
 
 impl SeesRequests for SeenRows<'_> {
-    fn see(&mut self, request: &Request, line: usize) -> Result<(), NoMemory> {
-        if self.named.add(self.config, request, line)? {
+    fn see(&mut self, request: &Request, line: usize) {
+        if self.named.add(self.config, request, line) {
             self.late.add(self.config, request.tick, line);
         }
         self.backward.add(request.tick, line);
-        Ok(())
     }
 }

@@ -6,9 +6,9 @@ use crate::names::TableId;
 use crate::parts::{Noun, Part, Text};
 use crate::runs::Run;
 use crate::warnings::{Key, Subject, Tally, Warnings};
+use std::alloc::AllocError;
 use us_calendar::{Entry, Kind};
 use us_flows::{Channel, Config, TableName};
-use us_slots::NoMemory;
 
 /// An entry that has windows which no schedule could grant.
 #[derive(Clone, Copy)]
@@ -29,7 +29,7 @@ pub(crate) fn add_hopeless(
     channel: &Channel,
     entries: &[Entry],
     run: &Run,
-) -> Result<(), NoMemory>
+) -> Result<(), AllocError>
     requires { IsChannel config.now channel.now }
 {
     let maps = EmptyMaps::of(config, channel);
