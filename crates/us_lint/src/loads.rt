@@ -7,17 +7,17 @@ use us_calendar::Entry;
 pub(crate) const MAX_ASSIGNMENTS: u64 = 100;
 
 /// Thousandths of an assignment.
-pub(crate) const PER_ASSIGNMENT: u64 = 1_000;
+const PER_ASSIGNMENT: u64 = 1_000;
 
 /// The most bytes of a line of the report that is a calendar's, with its line feed, such as
 /// `G,67108863,255,station,65535,4194303,126,16383,11,4095,4096,0`.
-pub(crate) const MAX_LINE_BYTES: u64 = 62;
+const MAX_LINE_BYTES: u64 = 62;
 
 /// What the calendar of a channel asks for in a run.
 #[derive(Clone, Copy)]
 pub(crate) struct Load {
     /// How many assignments a round has on average, in thousandths.
-    pub(crate) thousandths: u64,
+    thousandths: u64,
     /// How many lines of the report they take at most.
     pub(crate) lines: u64,
 }
@@ -49,8 +49,18 @@ impl Load {
         self.lines = self.lines.saturating_add(grants * u64::from(intervals));
     }
 
-    /// Whether these are more assignments than a MAP has.
+    /// How many assignments a round has on average, rounded down.
+    pub(crate) fn assignments(&self) -> u64 {
+        self.thousandths / PER_ASSIGNMENT
+    }
+
+    /// Whether these are more than a MAP has.
     pub(crate) fn is_too_much(&self) -> bool {
         self.thousandths > MAX_ASSIGNMENTS * PER_ASSIGNMENT
+    }
+
+    /// How many bytes these lines are at most.
+    pub(crate) fn bytes(&self) -> u64 {
+        self.lines.saturating_mul(MAX_LINE_BYTES)
     }
 }

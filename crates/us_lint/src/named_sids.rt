@@ -50,8 +50,7 @@ impl NamedSids {
             Some(_) => &mut self.unused,
             None => &mut self.unknown,
         };
-        let is_added = refused.add(channel, sid, line, is_new).is_ok();
-        self.lacks_memory |= !is_added;
+        self.lacks_memory |= refused.add(channel, sid, line, is_new).is_err();
         false
     }
 

@@ -91,7 +91,7 @@ static NOUNS: [[&str; 2]; 12] = [
 ];
 
 impl Part {
-    /// It in words.
+    /// What it is in words.
     fn words(self) -> Sentence {
         match self {
             Part::Number(number) => Sentence::of("#", number),

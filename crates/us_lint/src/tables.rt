@@ -1,6 +1,6 @@
 ghost use Rattle.us_flows.specs.Lawful.{IsChannel};
 
-use crate::loads::{Load, MAX_ASSIGNMENTS, MAX_LINE_BYTES, PER_ASSIGNMENT};
+use crate::loads::{Load, MAX_ASSIGNMENTS};
 use crate::names::TableId;
 use crate::parts::{Noun, Part};
 use crate::runs::Run;
@@ -80,8 +80,8 @@ impl SeenCalendars {
         if load.is_too_much() {
             push_load(warnings, &mut self.too_much, table, &load, run);
         }
-        let are_added = add_hopeless(&mut self.hopeless, config, channel, entries, run).is_ok();
-        warnings.lacks_memory |= !are_added;
+        let hopeless = &mut self.hopeless;
+        warnings.lacks_memory |= add_hopeless(hopeless, config, channel, entries, run).is_err();
     }
 }
 
@@ -97,11 +97,11 @@ fn push_load(warnings: &mut Warnings, tally: &mut Tally, channel: TableId, load:
         # have room; the report of rounds up to # has at most # of it, # bytes",
         &[
             Part::Table(channel),
-            Part::Number(load.thousandths / PER_ASSIGNMENT),
+            Part::Number(load.assignments()),
             Part::Number(MAX_ASSIGNMENTS),
             Part::Number(run.last_round() as u64),
             Part::Counted(load.lines, Noun::Line),
-            Part::Number(load.lines.saturating_mul(MAX_LINE_BYTES)),
+            Part::Number(load.bytes()),
         ],
     );
 }
