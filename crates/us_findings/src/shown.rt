@@ -6,8 +6,8 @@ const MAX_SHOWN: usize = 40;
 /// The most bytes of a character.
 const MAX_CHARACTER: usize = 4;
 
-/// A text of the input as a finding shows it: its first 40 characters, with two dots where there are more. Those that aren't
-/// seen, such as control characters, are escaped, as are bytes that are no UTF-8.
+/// A text of the input as a finding shows it: its first 40 characters, with two dots where there are more. Control characters
+/// and others that may not be seen by themselves are escaped, as are bytes that are no UTF-8.
 #[derive(Clone, Copy)]
 pub struct Shown<'a>(pub &'a [u8]);
 
@@ -75,7 +75,7 @@ fn first_character(text: &[u8]) -> Option<char> {
     }
 }
 
-/// Writes a character, one that isn't seen by its escape.
+/// Writes a character, or its escape if it has one. Quotes and backslashes stand as they do in the input.
 fn write_character<W: fmt::Write>(f: &mut fmt::Formatter<W>, character: char) -> fmt::Result {
     match character {
         '"' | '\'' | '\\' => f.write_char(character),

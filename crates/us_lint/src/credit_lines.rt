@@ -88,10 +88,7 @@ fn wrong_grant(flow: &Flow, channel: &Channel, line: Told) -> Option<Sentence> {
 /// Whether a flow's cluster has a SID on a channel, as 1 or 0, and that.
 fn sid_on(flow: &Flow, channel: u64, cluster: u64) -> (u64, u64) {
     let clusters = flow.clusters();
-    let sids = match clusters.get(cluster as usize) {
-        Some(sids) => sids.as_slice(),
-        None => &[],
-    };
+    let sids: &[u16] = clusters.get(cluster as usize).map_or(&[], Vec::as_slice);
     for (place, id) in flow.channels().iter().enumerate() {
         if *id as u64 == channel {
             return match sids.get(place) {

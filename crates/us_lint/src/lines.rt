@@ -44,10 +44,7 @@ impl Lines {
     /// What the first one tells.
     pub(crate) fn first(self, rows: &[Row]) -> Told {
         let place = self.numbers[0].wrapping_sub(1);
-        match rows.get(place as usize) {
-            Some(row) => told_by(row),
-            None => NO_LINE,
-        }
+        rows.get(place as usize).map_or(NO_LINE, told_by)
     }
 
     /// What a finding at the first one calls them: `this line and line 12`.
@@ -144,7 +141,7 @@ pub(crate) fn lines_of(rows: &[Row], which: Which) -> Lines {
     lines
 }
 
-/// The bytes of the line of this number, from 1, with its line feed.
+/// The bytes of the line of this number, from 1, with its line feed, if it has one.
 pub(crate) fn line_at(report: &[u8], number: u64) -> &[u8] {
     let (mut line, mut start) = (1_u64, 0);
     for (place, byte) in report.iter().enumerate() {

@@ -23,7 +23,7 @@ pub(crate) struct NamedSids {
     pub(crate) unknown: Refused,
     /// and those with rows of kinds that their flow doesn't take.
     pub(crate) unused: Refused,
-    /// Whether memory was wanting for one of them.
+    /// Whether memory was wanting for them.
     pub(crate) lacks_memory: bool,
 }
 

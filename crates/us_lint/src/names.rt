@@ -1,4 +1,3 @@
-use us_findings::Sentence;
 use us_flows::{Config, Place, TableName};
 
 /// A table as a warning calls it: its place, and its id.
@@ -19,14 +18,14 @@ impl TableId {
     }
 
     /// What it is called.
-    pub(crate) fn title(self) -> Sentence {
+    pub(crate) fn title(self) -> us_findings::Sentence {
         let words = match self.place.table {
             TableName::Top => "the top level",
             TableName::Channel => "channel # (id #)",
             TableName::Flow => "flow # (id #)",
             TableName::Station => "station # (id #)",
         };
-        Sentence(words, [self.place.index as u64, self.id as u64, 0, 0])
+        us_findings::Sentence(words, [self.place.index as u64, self.id as u64, 0, 0])
     }
 
     /// The flow with this id.

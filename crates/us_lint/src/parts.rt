@@ -1,6 +1,5 @@
 use crate::names::TableId;
 use std::alloc::{AllocError, Global};
-use us_findings::Sentence;
 
 /// What stands among the words of a warning. It holds no reference.
 #[derive(Clone, Copy)]
@@ -50,7 +49,7 @@ pub(crate) enum Noun {
     StationWithoutRoom,
 }
 
-/// These, in the same order: what one of them is called, and several.
+/// These, in the same order: what one of them is called, and several, with `#` for how many there are.
 static NOUNS: [[&str; 2]; 12] = [
     ["# row", "# rows, the first here"],
     ["# line", "# lines"],
@@ -92,14 +91,14 @@ static NOUNS: [[&str; 2]; 12] = [
 
 impl Part {
     /// What it is in words.
-    fn words(self) -> Sentence {
+    fn words(self) -> us_findings::Sentence {
         match self {
-            Part::Number(number) => Sentence::of("#", number),
-            Part::Text(text) => Sentence::plain(TEXTS[text as usize]),
+            Part::Number(number) => us_findings::Sentence::of("#", number),
+            Part::Text(text) => us_findings::Sentence::plain(TEXTS[text as usize]),
             Part::Table(table) => table.title(),
             Part::Counted(count, noun) => {
                 let is_one = count == 1;
-                Sentence::of(NOUNS[noun as usize][!is_one as usize], count)
+                us_findings::Sentence::of(NOUNS[noun as usize][!is_one as usize], count)
             }
         }
     }

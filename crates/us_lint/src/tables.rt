@@ -11,7 +11,7 @@ use us_flows::{Channel, Config, TableName};
 
 impl Warnings {
     /// Adds what looks wrong in the tables of a configuration, for a run of so many rounds; for the longest run where none
-    /// has so many.
+    /// has so many. Want of memory is told by [`Warnings::located`].
     pub fn add_tables(&mut self, config: &Config, rounds: u32) {
         let run = Run::new(config, rounds);
         push_lead(self, config, &run);

@@ -34,7 +34,7 @@ impl<'a> SeenRows<'a> {
         }
     }
 
-    /// Adds what looks wrong in them, and in the configuration beside them.
+    /// Adds what looks wrong in them, and in the configuration beside them. Want of memory for them is told with those.
     pub fn warn(&self, warnings: &mut Warnings) {
         let config = self.config;
         warnings.lacks_memory |= self.named.lacks_memory;
