@@ -4,7 +4,7 @@ use crate::keys::Keys;
 use crate::sentences::Sentence;
 use crate::shown::ShownKey;
 use crate::spots::KeyPath;
-use crate::titles::Title;
+use crate::titles::{Title, table_words};
 use crate::values::wanted;
 use std::fmt;
 use toml::{Table, Value};
@@ -126,7 +126,7 @@ impl fmt::Display for Draft<'_> {
         write!(
             f,
             "{}{comma}{profile}{}{}{}{}{}{}",
-            self.title.words(),
+            table_words(self.title.place, self.title.id),
             self.around[0],
             ShownKey(self.key),
             self.around[1],

@@ -109,5 +109,6 @@ pub use sentences::Sentence;
 pub use shown::Shown;
 pub use spots::{KeyPath, Spot};
 pub use texts::too_long_config;
+pub use titles::table_words;
 pub use trace_errors::{lint_trace, too_long_trace};
 pub use walks::spots_of;

@@ -12,21 +12,16 @@ pub(crate) struct Title {
     pub(crate) profile: Option<&'static str>,
 }
 
-impl Title {
-    /// What it is called, without the profile.
-    pub(crate) fn words(self) -> Sentence {
-        let words = match (self.place.table, self.id.is_some()) {
-            (TableName::Top, _) => "the top level",
-            (TableName::Channel, false) => "channel #",
-            (TableName::Channel, true) => "channel # (id #)",
-            (TableName::Flow, false) => "flow #",
-            (TableName::Flow, true) => "flow # (id #)",
-            (TableName::Station, false) => "station #",
-            (TableName::Station, true) => "station # (id #)",
-        };
-        Sentence(
-            words,
-            [u64::from(self.place.index), self.id.unwrap_or(0), 0, 0],
-        )
-    }
+/// What a finding calls the table at a place, by its id if it has one.
+pub fn table_words(place: Place, id: Option<u64>) -> Sentence {
+    let words = match (place.table, id.is_some()) {
+        (TableName::Top, _) => "the top level",
+        (TableName::Channel, false) => "channel #",
+        (TableName::Channel, true) => "channel # (id #)",
+        (TableName::Flow, false) => "flow #",
+        (TableName::Flow, true) => "flow # (id #)",
+        (TableName::Station, false) => "station #",
+        (TableName::Station, true) => "station # (id #)",
+    };
+    Sentence(words, [u64::from(place.index), id.unwrap_or(0), 0, 0])
 }

@@ -2,8 +2,8 @@ use crate::broken::BrokenRule;
 use crate::findings::VerdictFile;
 use crate::lengths::{channel_with, flow_with};
 use crate::lines::{Which, lines_of};
+use crate::phrases::{Name, Phrase};
 use crate::said::{Said, first_other, place_of};
-use crate::sentences::{Name, Sentence};
 use crate::told::{Told, told_by};
 use us_flows::{Channel, Flow};
 use us_output::Row;
@@ -35,13 +35,13 @@ pub(crate) fn credit_line_said(
 }
 
 /// What is wrong with a grant of a request, by itself.
-fn wrong_with(flows: &[Flow], channels: &[Channel], line: Told) -> Option<Sentence> {
+fn wrong_with(flows: &[Flow], channels: &[Channel], line: Told) -> Option<Phrase> {
     match (
         flow_with(flows, line.id),
         channel_with(channels, line.channel),
     ) {
         (Some(flow), Some(channel)) => wrong_grant(flow, channel, line),
-        _ => Some(Sentence::wanted(Name::Flows, 1, 0)),
+        _ => Some(Phrase::wanted(Name::Flows, 1, 0)),
     }
 }
 
@@ -59,7 +59,7 @@ static NAMES: [Name; 8] = [
 ];
 
 /// The same, of a flow and on a channel.
-fn wrong_grant(flow: &Flow, channel: &Channel, line: Told) -> Option<Sentence> {
+fn wrong_grant(flow: &Flow, channel: &Channel, line: Told) -> Option<Phrase> {
     let requests = flow.kind().makes_requests() as u64;
     let last = (flow.clusters().len() as u64).saturating_sub(1);
     let (found, sid) = sid_on(flow, line.channel, line.i);

@@ -4,8 +4,8 @@ use crate::findings::VerdictFile;
 use crate::lengths::{Lengths, flow_with};
 use crate::levels::Level;
 use crate::lines::{Lines, Which};
+use crate::phrases::{Name, Phrase, Text};
 use crate::said::{Said, place_of};
-use crate::sentences::{Name, Sentence, Text};
 use crate::told::told_by;
 use std::alloc::{AllocError, Global};
 use us_bucket::UNITS_PER_BYTE;
@@ -29,8 +29,8 @@ pub(crate) struct Credits {
 
 impl Credits {
     /// That the bytes in the round are too many, and how many there may be at most.
-    fn said(self, place: Sentence, most: Sentence) -> Said {
-        let before = Sentence::of(Text::Credited, self.inside);
+    fn said(self, place: Phrase, most: Phrase) -> Said {
+        let before = Phrase::of(Text::Credited, self.inside);
         Said::at_lines(place, before, self.lines, most)
     }
 }
@@ -136,15 +136,15 @@ pub(crate) fn rate_said(
     rows: &[Row],
     broken: BrokenRule,
 ) -> Result<Said, NoMemory> {
-    let place = Sentence::new(Text::Flow, [broken.round, broken.place, 0, 0]);
+    let place = Phrase::new(Text::Flow, [broken.round, broken.place, 0, 0]);
     let Some(flow) = flow_with(flows, broken.place) else {
-        let none = Sentence::wanted(Name::Flows, 1, 0);
+        let none = Phrase::wanted(Name::Flows, 1, 0);
         return Ok(Said::at(VerdictFile::Report, place, none));
     };
     let level = level_before(alloc, rows, flow, lengths.round_ticks, broken.round)?;
     let most = level.units_in(broken.round) / UNITS_PER_BYTE as u128;
     let credits = credits_of(rows, flow, ALL, broken.round);
-    Ok(credits.said(place, Sentence::of(Text::Bucket, saturated(most))))
+    Ok(credits.said(place, Phrase::of(Text::Bucket, saturated(most))))
 }
 
 /// That a cluster is credited more in a round than is outstanding.
@@ -162,8 +162,8 @@ pub(crate) fn outstanding_said(
             let asked = asked_within(trace, word, broken.round.saturating_add(1));
             let most = asked.saturating_sub(credits.before);
             if most < credits.inside {
-                let place = Sentence::new(Text::Cluster, [broken.round, broken.place, cluster, 0]);
-                return credits.said(place, Sentence::of(Text::Left, most));
+                let place = Phrase::new(Text::Cluster, [broken.round, broken.place, cluster, 0]);
+                return credits.said(place, Phrase::of(Text::Left, most));
             }
         }
     }
@@ -171,6 +171,6 @@ pub(crate) fn outstanding_said(
     Said::at(
         VerdictFile::Report,
         place_of(broken),
-        Sentence::wanted(Name::Flows, 1, 0),
+        Phrase::wanted(Name::Flows, 1, 0),
     )
 }

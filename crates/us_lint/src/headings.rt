@@ -2,9 +2,9 @@ ghost use Rattle.std.specs.Prelude.{◌≤◌};
 
 use crate::findings::VerdictFile;
 use crate::lengths::Lengths;
+use crate::phrases::{NOTHING, Name, Phrase, Text};
 use crate::records::{behind_records, record_at};
 use crate::said::{Said, first_other};
-use crate::sentences::{NOTHING, Name, Sentence, Text};
 use std::alloc::Global;
 use us_codec::{Element, Map};
 use us_flows::Channel;
@@ -28,7 +28,7 @@ pub(crate) fn heading_said(
             Ok(Said::at(VerdictFile::Maps, record.place, wrong.unwrap_or(NOTHING)))
         }
         _ => {
-            let place = Sentence::new(Text::Record, [number, record.at, 0, 0]);
+            let place = Phrase::new(Text::Record, [number, record.at, 0, 0]);
             let wrong = count_wrong(maps, lengths.rounds, width);
             Ok(Said::at(VerdictFile::Maps, place, wrong))
         }
@@ -36,14 +36,14 @@ pub(crate) fn heading_said(
 }
 
 /// How many records there are, and how many there must be.
-fn count_wrong(maps: &[u8], rounds: u64, width: u64) -> Sentence
+fn count_wrong(maps: &[u8], rounds: u64, width: u64) -> Phrase
     requires { 1 ≤ width }
 {
     let (count, _) = behind_records(maps, u64::MAX);
     if count.is_multiple_of(width) {
-        Sentence::new(Text::Rounds, [count / width, rounds, 0, 0])
+        Phrase::new(Text::Rounds, [count / width, rounds, 0, 0])
     } else {
-        Sentence::wanted(Name::Records, rounds.saturating_mul(width), count)
+        Phrase::wanted(Name::Records, rounds.saturating_mul(width), count)
     }
 }
 

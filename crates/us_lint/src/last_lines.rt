@@ -2,8 +2,8 @@ use crate::calendars::saturated;
 use crate::credits::{asked_within, credits_of, first_word, level_before};
 use crate::lengths::{Lengths, flow_with};
 use crate::lines::{Lines, Which, lines_of};
+use crate::phrases::{Name, Phrase, Text};
 use crate::said::{Said, first_other};
-use crate::sentences::{Name, Sentence, Text};
 use crate::told::{Told, Topic};
 use std::alloc::Global;
 use us_activity::Activities;
@@ -16,7 +16,7 @@ use us_slots::NoMemory;
 #[derive(Clone, Copy)]
 struct LastPlace {
     which: Which,
-    words: Sentence,
+    words: Phrase,
     wanted: u64,
 }
 
@@ -45,7 +45,7 @@ pub(crate) fn last_said(
         }
     }
     // Nobody comes here: a last line is wrong, or the verdict is another.
-    let words = Sentence::of(Text::CountsLine, 0);
+    let words = Phrase::of(Text::CountsLine, 0);
     Ok(Said::count(1, Lines::none(), words))
 }
 
@@ -69,25 +69,25 @@ fn place_at(id: u64, lists: u64, tells: u64, number: u64) -> LastPlace {
     if number == 0 {
         LastPlace {
             which: Which::Last(Topic::Final, id, lists, u64::MAX),
-            words: Sentence::new(Text::FinalLinesFrom, [id, lists, 0, 0]),
+            words: Phrase::new(Text::FinalLinesFrom, [id, lists, 0, 0]),
             wanted: 0,
         }
     } else if list < lists {
         LastPlace {
             which: Which::Last(Topic::Final, id, list, list),
-            words: Sentence::new(Text::FinalLine, [id, list, 0, 0]),
+            words: Phrase::new(Text::FinalLine, [id, list, 0, 0]),
             wanted: 1,
         }
     } else if list == lists {
         LastPlace {
             which: Which::Last(Topic::Activity, id, 0, u64::MAX),
-            words: Sentence::of(Text::ActivityLine, id),
+            words: Phrase::of(Text::ActivityLine, id),
             wanted: tells,
         }
     } else {
         LastPlace {
             which: Which::Last(Topic::Counts, 0, 0, u64::MAX),
-            words: Sentence::of(Text::CountsLine, 0),
+            words: Phrase::of(Text::CountsLine, 0),
             wanted: 1,
         }
     }

@@ -82,7 +82,7 @@ mod lines;
 mod told;
 
 // Words with numbers among them.
-mod sentences;
+mod phrases;
 
 // What is found: the place, and what is wanted there.
 mod said;

@@ -1,6 +1,6 @@
 use crate::broken::BrokenRule;
 use crate::findings::VerdictFile;
-use crate::sentences::{Sentence, Text};
+use crate::phrases::{Phrase, Text};
 use crate::told::{NO_LINE, REQUESTED, Told, Topic, told_by};
 use us_output::Row;
 
@@ -48,20 +48,20 @@ impl Lines {
     }
 
     /// What a finding at the first one calls them: `this line and line 12`.
-    pub(crate) fn named(self) -> Sentence {
+    pub(crate) fn named(self) -> Phrase {
         let [_, a, b, c, d] = self.numbers;
-        Sentence::new(LINES[self.count.min(MAX_NAMED)], [a, b, c, d])
+        Phrase::new(LINES[self.count.min(MAX_NAMED)], [a, b, c, d])
     }
 
     /// How many more there are than are named.
-    pub(crate) fn more(self) -> Sentence {
+    pub(crate) fn more(self) -> Phrase {
         let more = self.count.saturating_sub(MAX_NAMED);
         let text = if more == 0 {
             Text::Nothing
         } else {
             Text::MoreLines
         };
-        Sentence::of(text, more as u64)
+        Phrase::of(text, more as u64)
     }
 
     /// Where a finding of them is: at the first one, if there is one.

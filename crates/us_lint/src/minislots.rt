@@ -3,9 +3,9 @@ use crate::calendars::REQUEST;
 use crate::findings::VerdictFile;
 use crate::lengths::Lengths;
 use crate::lines::{Lines, Which, lines_of};
+use crate::phrases::{NOTHING, Name, Phrase, Text};
 use crate::records::record_at;
 use crate::said::Said;
-use crate::sentences::{NOTHING, Name, Sentence, Text};
 use crate::told::{Told, told_by};
 use std::alloc::Global;
 use us_flows::Channel;
@@ -47,9 +47,9 @@ pub(crate) fn minislot_said(
         }
         Some(_) => {
             let last = lengths.rounds.saturating_sub(1);
-            Sentence::between(Name::RoundOfRun, 0, last, broken.round)
+            Phrase::between(Name::RoundOfRun, 0, last, broken.round)
         }
-        None => Sentence::wanted(Name::Channels, 1, 0),
+        None => Phrase::wanted(Name::Channels, 1, 0),
     };
     let lines = lines_of(rows, Which::Map(broken.round, broken.channel));
     Ok(Said::at(lines.file(), map_of(broken), lacked))
@@ -82,8 +82,8 @@ fn placed(channels: &[Channel], lengths: Lengths, broken: BrokenRule) -> Option<
 }
 
 /// The place of a verdict's MAP.
-fn map_of(broken: BrokenRule) -> Sentence {
-    Sentence::new(Text::Map, [broken.round, broken.channel, 0, 0])
+fn map_of(broken: BrokenRule) -> Phrase {
+    Phrase::new(Text::Map, [broken.round, broken.channel, 0, 0])
 }
 
 /// That a minislot of a MAP isn't what it must be: what lines grant, what is wanted, and what the MAP has.
@@ -101,7 +101,7 @@ fn minislot_of(
         0 => (VerdictFile::Maps, record.place),
         _ => (lines.file(), map_of(broken)),
     };
-    let which = Sentence::new(Text::Minislot, [broken.place, map.len, 0, 0]);
+    let which = Phrase::new(Text::Minislot, [broken.place, map.len, 0, 0]);
     let wanted = wanted_at(map, broken.place, granted);
     let behind = [granted.span, wanted, record.element];
     Ok(Said::of_lines(file, place, which, lines, behind))
@@ -113,7 +113,7 @@ struct Granted {
     /// The lines that grant a minislot,
     lines: Lines,
     /// and the minislots of the first of them.
-    span: Sentence,
+    span: Phrase,
     /// The last end of grants before it, and the first start behind it, both between the reserves.
     from: u64,
     to: u64,
@@ -131,7 +131,7 @@ fn granted_in(rows: &[Row], broken: BrokenRule, map: PlacedMap) -> Granted {
             if is_about(line, broken.place, map.len) {
                 if lines.count == 0 {
                     let numbers = [line.start, line.slots, line.sid, line.iuc];
-                    span = Sentence::new(Text::LineSpan, numbers);
+                    span = Phrase::new(Text::LineSpan, numbers);
                 }
                 lines.add(place);
             }
@@ -163,18 +163,18 @@ fn is_about(line: Told, at: u64, len: u64) -> bool {
 
 /// What is wanted at a minislot: the reserve that has it, or where no line grants it a gap, for all modems, or for nobody
 /// where it is too short for a request.
-fn wanted_at(map: PlacedMap, at: u64, granted: Granted) -> Sentence {
+fn wanted_at(map: PlacedMap, at: u64, granted: Granted) -> Phrase {
     let slots = granted.to.saturating_sub(granted.from);
     if at < map.first {
         let numbers = [0, map.first, BROADCAST, INITIAL_MAINTENANCE];
-        Sentence::new(Text::MaintenanceSpan, numbers)
+        Phrase::new(Text::MaintenanceSpan, numbers)
     } else if map.last <= at && at < map.len {
         let numbers = [map.last, map.len - map.last, BROADCAST, REQUEST];
-        Sentence::new(Text::ContentionSpan, numbers)
+        Phrase::new(Text::ContentionSpan, numbers)
     } else if granted.lines.count > 0 {
         NOTHING
     } else {
         let sid = if map.request <= slots { BROADCAST } else { 0 };
-        Sentence::new(Text::Gap, [granted.from, slots, sid, REQUEST])
+        Phrase::new(Text::Gap, [granted.from, slots, sid, REQUEST])
     }
 }

@@ -56,7 +56,7 @@ impl NamedSids {
 
     /// Notes how the SID at a place is named once more. Answers whether no row before was one that isn't taken.
     fn note(&mut self, place: usize, asks: bool) -> bool {
-        if self.named.is_empty() {
+        if self.named.is_empty() & !self.lacks_memory {
             self.lacks_memory |= self.named.resize(CHANNELS * SIDS, 0).is_err();
         }
         let Some(named) = self.named.get_mut(place) else {

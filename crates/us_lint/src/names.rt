@@ -17,17 +17,6 @@ impl TableId {
         }
     }
 
-    /// What it is called.
-    pub(crate) fn title(self) -> us_findings::Sentence {
-        let words = match self.place.table {
-            TableName::Top => "the top level",
-            TableName::Channel => "channel # (id #)",
-            TableName::Flow => "flow # (id #)",
-            TableName::Station => "station # (id #)",
-        };
-        us_findings::Sentence(words, [self.place.index as u64, self.id as u64, 0, 0])
-    }
-
     /// The flow with this id.
     pub(crate) fn of_flow(config: &Config, id: u16) -> TableId {
         for (index, flow) in config.flows().iter().enumerate() {

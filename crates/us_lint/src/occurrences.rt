@@ -3,8 +3,8 @@ use crate::calendars::{Entries, Interval, PlacedEntry};
 use crate::findings::VerdictFile;
 use crate::lengths::Lengths;
 use crate::lines::{Occurrence, Which, lines_of};
+use crate::phrases::{Name, Phrase, Text};
 use crate::said::{Said, first_other, place_of};
-use crate::sentences::{Name, Sentence, Text};
 use crate::told::{Told, told_by};
 use std::alloc::{AllocError, Global};
 use us_activity::Activities;
@@ -36,14 +36,14 @@ pub(crate) fn occurrence_said(
         k: first.k,
     });
     let interval = entries.named(of.topic).interval(activities, lengths, of.i);
-    let before = Sentence::new(Text::Occurrence, [of.i, of.k, 0, 0]);
+    let before = Phrase::new(Text::Occurrence, [of.i, of.k, 0, 0]);
     let ends = [interval.first, interval.last.saturating_add(1), 0, 0];
     let lines = lines_of(rows, Which::Occurrence(of));
     Ok(Said::at_lines(
         place_of(broken),
         before,
         lines,
-        Sentence::new(Text::Starts, ends),
+        Phrase::new(Text::Starts, ends),
     ))
 }
 
@@ -85,7 +85,7 @@ static GRANT_NAMES: [Name; 8] = [
 static MISSED_NAMES: [Name; 4] = [Name::Entries, Name::Channel, Name::K, Name::ClosingRound];
 
 /// What is wrong with a line of an interval of an entry, by itself.
-fn wrong_with(of: PlacedEntry, interval: Interval, line: Told) -> Option<Sentence> {
+fn wrong_with(of: PlacedEntry, interval: Interval, line: Told) -> Option<Phrase> {
     let is_there = (of.topic == line.topic) as u64;
     let Interval {
         last_place,

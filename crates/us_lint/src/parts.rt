@@ -1,5 +1,6 @@
 use crate::names::TableId;
 use std::alloc::{AllocError, Global};
+use us_findings::{Sentence, table_words};
 
 /// What stands among the words of a warning. It holds no reference.
 #[derive(Clone, Copy)]
@@ -91,14 +92,14 @@ static NOUNS: [[&str; 2]; 12] = [
 
 impl Part {
     /// What it is in words.
-    fn words(self) -> us_findings::Sentence {
+    fn words(self) -> Sentence {
         match self {
-            Part::Number(number) => us_findings::Sentence::of("#", number),
-            Part::Text(text) => us_findings::Sentence::plain(TEXTS[text as usize]),
-            Part::Table(table) => table.title(),
+            Part::Number(number) => Sentence::of("#", number),
+            Part::Text(text) => Sentence::plain(TEXTS[text as usize]),
+            Part::Table(table) => table_words(table.place, Some(table.id as u64)),
             Part::Counted(count, noun) => {
                 let is_one = count == 1;
-                us_findings::Sentence::of(NOUNS[noun as usize][!is_one as usize], count)
+                Sentence::of(NOUNS[noun as usize][!is_one as usize], count)
             }
         }
     }

@@ -1,7 +1,7 @@
 use crate::findings::VerdictFile;
 use crate::headings::{Heading, NO_HEADING, heading_of};
+use crate::phrases::{NOTHING, Phrase, Text};
 use crate::said::Said;
-use crate::sentences::{NOTHING, Sentence, Text};
 use std::alloc::Global;
 use us_codec::{Element, MapFault, decode};
 use us_slots::NoMemory;
@@ -13,7 +13,7 @@ const FRONT_BYTES: usize = 6;
 #[derive(Clone, Copy)]
 pub(crate) struct FileRecord {
     /// Where it is.
-    pub(crate) place: Sentence,
+    pub(crate) place: Phrase,
     /// The byte at which it begins, or would begin.
     pub(crate) at: u64,
     /// Whether it is there, and whole.
@@ -23,7 +23,7 @@ pub(crate) struct FileRecord {
     /// What it says of itself,
     pub(crate) heading: Heading,
     /// and the element that has a minislot.
-    pub(crate) element: Sentence,
+    pub(crate) element: Phrase,
 }
 
 /// How long the record is that begins these bytes, be it whole or not.
@@ -69,7 +69,7 @@ pub(crate) fn record_at(
         Text::Record
     };
     let mut record = FileRecord {
-        place: Sentence::new(text, [number, at, round, channel]),
+        place: Phrase::new(text, [number, at, round, channel]),
         at,
         is_whole,
         fault: None,
@@ -88,12 +88,12 @@ pub(crate) fn record_at(
 }
 
 /// The element that has a minislot. It reaches to the first one that begins behind that.
-fn element_span(elements: &[Element], at: u64) -> Sentence {
+fn element_span(elements: &[Element], at: u64) -> Phrase {
     let (mut begin, mut sid, mut iuc) = (0_u64, 0_u64, 0_u64);
     for element in elements {
         let start = element.offset() as u64;
         if at < start {
-            return Sentence::new(
+            return Phrase::new(
                 Text::MapSpan,
                 [begin, start.saturating_sub(begin), sid, iuc],
             );
@@ -108,7 +108,7 @@ fn element_span(elements: &[Element], at: u64) -> Sentence {
 /// Why a record is none: the file ends inside it, or its body isn't in the grammar.
 pub(crate) fn record_said(alloc: Global, file: &[u8], number: u64) -> Result<Said, NoMemory> {
     let record = record_at(alloc, file, number, 0)?;
-    let end = Sentence::of(Text::FileEnd, file.len() as u64);
+    let end = Phrase::of(Text::FileEnd, file.len() as u64);
     let (fault, more) = if record.is_whole {
         (record.fault, NOTHING)
     } else {

@@ -1,18 +1,18 @@
 use crate::broken::BrokenRule;
 use crate::findings::VerdictFile;
 use crate::lines::Lines;
-use crate::sentences::{NOTHING, Name, Sentence, Text};
+use crate::phrases::{NOTHING, Name, Phrase, Text};
 use std::fmt;
 use us_codec::MapFault;
 
-/// What is said of a broken rule: the file, the place, and what is wrong there: the fault of a record, or sentences that
-/// follow one another.
+/// What is said of a broken rule: the file, the place, and what is wrong there: the fault of a record, or phrases that follow
+/// one another.
 #[derive(Clone, Copy)]
 pub(crate) struct Said {
     pub(crate) file: VerdictFile,
-    pub(crate) place: Sentence,
+    pub(crate) place: Phrase,
     pub(crate) fault: Option<MapFault>,
-    pub(crate) wrong: [Sentence; 6],
+    pub(crate) wrong: [Phrase; 6],
 }
 
 /// Writes the place, and what is wrong there.
@@ -22,33 +22,33 @@ impl fmt::Display for Said {
         if let Some(fault) = self.fault {
             write!(f, "{fault}")?;
         }
-        for sentence in &self.wrong {
-            write!(f, "{sentence}")?;
+        for phrase in &self.wrong {
+            write!(f, "{phrase}")?;
         }
         Ok(())
     }
 }
 
 impl Said {
-    /// What is wrong at a place, in one sentence.
-    pub(crate) fn at(file: VerdictFile, place: Sentence, wrong: Sentence) -> Said {
-        let mut sentences = [NOTHING; 6];
-        sentences[0] = wrong;
+    /// What is wrong at a place, in one phrase.
+    pub(crate) fn at(file: VerdictFile, place: Phrase, wrong: Phrase) -> Said {
+        let mut phrases = [NOTHING; 6];
+        phrases[0] = wrong;
         Said {
             file,
             place,
             fault: None,
-            wrong: sentences,
+            wrong: phrases,
         }
     }
 
     /// What is said of lines before and behind them.
     pub(crate) fn of_lines(
         file: VerdictFile,
-        place: Sentence,
-        before: Sentence,
+        place: Phrase,
+        before: Phrase,
         lines: Lines,
-        behind: [Sentence; 3],
+        behind: [Phrase; 3],
     ) -> Said {
         let [a, b, c] = behind;
         Said {
@@ -59,26 +59,21 @@ impl Said {
         }
     }
 
-    /// The same at the first of them, with one sentence behind.
-    pub(crate) fn at_lines(
-        place: Sentence,
-        before: Sentence,
-        lines: Lines,
-        behind: Sentence,
-    ) -> Said {
+    /// The same at the first of them, with one phrase behind.
+    pub(crate) fn at_lines(place: Phrase, before: Phrase, lines: Lines, behind: Phrase) -> Said {
         let behind = [behind, NOTHING, NOTHING];
         Said::of_lines(lines.file(), place, before, lines, behind)
     }
 
     /// There are these lines, in place of so many.
-    pub(crate) fn count(wanted: u64, lines: Lines, place: Sentence) -> Said {
-        Said::at_lines(place, Sentence::of(Text::Lines, wanted), lines, NOTHING)
+    pub(crate) fn count(wanted: u64, lines: Lines, place: Phrase) -> Said {
+        Said::at_lines(place, Phrase::of(Text::Lines, wanted), lines, NOTHING)
     }
 }
 
 /// The round, the channel and the id of a verdict.
-pub(crate) fn place_of(broken: BrokenRule) -> Sentence {
-    Sentence::new(Text::Place, [broken.round, broken.channel, broken.place, 0])
+pub(crate) fn place_of(broken: BrokenRule) -> Phrase {
+    Phrase::new(Text::Place, [broken.round, broken.channel, broken.place, 0])
 }
 
 /// The first of some numbers that isn't between the least and the most that are wanted, these among them.
@@ -87,12 +82,12 @@ pub(crate) fn first_other(
     least: &[u64],
     most: &[u64],
     there: &[u64],
-) -> Option<Sentence> {
+) -> Option<Phrase> {
     for (place, name) in names.iter().enumerate() {
         let (least, most) = (number_at(least, place), number_at(most, place));
         let there = number_at(there, place);
         if (there < least) | (most < there) {
-            return Some(Sentence::between(*name, least, most, there));
+            return Some(Phrase::between(*name, least, most, there));
         }
     }
     None

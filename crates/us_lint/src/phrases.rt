@@ -3,40 +3,40 @@ use std::fmt;
 /// Words with numbers among them: a name, and behind it a text that has a number in the place of each `#`. Of these words it
 /// has only which they are, so that it holds no reference.
 #[derive(Clone, Copy)]
-pub(crate) struct Sentence(Name, Text, [u64; 4]);
+pub(crate) struct Phrase(Name, Text, [u64; 4]);
 
 /// Nothing is said.
-pub(crate) const NOTHING: Sentence = Sentence(Name::Nothing, Text::Nothing, [0; 4]);
+pub(crate) const NOTHING: Phrase = Phrase(Name::Nothing, Text::Nothing, [0; 4]);
 
-impl Sentence {
+impl Phrase {
     /// A text with up to four numbers.
-    pub(crate) fn new(text: Text, numbers: [u64; 4]) -> Sentence {
-        Sentence(Name::Nothing, text, numbers)
+    pub(crate) fn new(text: Text, numbers: [u64; 4]) -> Phrase {
+        Phrase(Name::Nothing, text, numbers)
     }
 
     /// A text with one number.
-    pub(crate) fn of(text: Text, number: u64) -> Sentence {
-        Sentence(Name::Nothing, text, [number, 0, 0, 0])
+    pub(crate) fn of(text: Text, number: u64) -> Phrase {
+        Phrase(Name::Nothing, text, [number, 0, 0, 0])
     }
 
     /// That one number is wanted, and another is there.
-    pub(crate) fn wanted(name: Name, wanted: u64, there: u64) -> Sentence {
-        Sentence(name, Text::Wanted, [wanted, there, 0, 0])
+    pub(crate) fn wanted(name: Name, wanted: u64, there: u64) -> Phrase {
+        Phrase(name, Text::Wanted, [wanted, there, 0, 0])
     }
 
     /// That a number between two is wanted, these among them, and another is there.
-    pub(crate) fn between(name: Name, least: u64, most: u64, there: u64) -> Sentence {
+    pub(crate) fn between(name: Name, least: u64, most: u64, there: u64) -> Phrase {
         if least == most {
-            Sentence(name, Text::Wanted, [least, there, 0, 0])
+            Phrase(name, Text::Wanted, [least, there, 0, 0])
         } else {
-            Sentence(name, Text::RangeWanted, [least, most, there, 0])
+            Phrase(name, Text::RangeWanted, [least, most, there, 0])
         }
     }
 }
 
-impl fmt::Display for Sentence {
+impl fmt::Display for Phrase {
     fn fmt<W: fmt::Write>(&self, f: &mut fmt::Formatter<W>) -> fmt::Result {
-        let Sentence(name, text, numbers) = *self;
+        let Phrase(name, text, numbers) = *self;
         let text = us_findings::Sentence(TEXTS[text as usize], numbers);
         write!(f, "{}{text}", NAMES[name as usize])
     }
