@@ -1,4 +1,6 @@
 ghost use Rattle.std.specs.Prelude.{◌≡◌, ◌<◌, IfOk, IfSome, length};
+ghost use Rattle.toml.specs.View.{table_view};
+ghost use Rattle.us_flows.specs.Answers.{IsDocument};
 ghost use Rattle.us_findings.specs.ConfigErrors.{IsConfigLint};
 ghost use Rattle.us_findings.specs.declared.findings.What.TheVariants as found;
 
@@ -9,7 +11,7 @@ use crate::located::located;
 use crate::rules::explained;
 use crate::spots::KeyPath;
 use crate::tables::add_shapes;
-use crate::texts::{alone, no_document, too_long};
+use crate::texts::{alone, no_document, too_long_config};
 use std::alloc::Global;
 use toml::Table;
 use us_flows::{Config, ConfigFault, MAX_CONFIG_BYTES};
@@ -20,25 +22,30 @@ use us_slots::NoMemory;
 pub fn lint_config(alloc: Global, text: &[u8]) -> Result<Result<Config, Findings>, NoMemory>
     ensures { IfOk result (IsConfigLint text.now) }
 {
-    match Config::read(alloc, text) {
-        Ok(config) => Ok(Ok(config)),
-        Err(fault) => match fault {
-            ConfigFault::NoMemory => Err(NoMemory),
-            _ => Ok(Err(errors_of(alloc, text, fault)?)),
-        },
+    if text.len() > MAX_CONFIG_BYTES {
+        return Ok(Err(too_long_config(alloc)?));
+    }
+    match toml::table_from_slice(alloc, text) {
+        Ok(document) => lint_document(alloc, text, &document),
+        Err(error) => Ok(Err(no_document(alloc, text, &error)?)),
     }
 }
 
-/// The errors of a text with this fault.
-fn errors_of(alloc: Global, text: &[u8], fault: ConfigFault) -> Result<Findings, NoMemory>
-    ensures { IfOk result (λ findings. findings.first.what ≡ found.Config fault) }
+/// The same of a text that is this document.
+fn lint_document(
+    alloc: Global,
+    text: &[u8],
+    document: &Table,
+) -> Result<Result<Config, Findings>, NoMemory>
+    requires { IsDocument text.now (table_view document.now) }
+    ensures { IfOk result (IsConfigLint text.now) }
 {
-    if text.len() > MAX_CONFIG_BYTES {
-        return too_long(alloc, fault);
-    }
-    match toml::table_from_slice(alloc, text) {
-        Ok(document) => errors_in(alloc, text, &document, fault),
-        Err(error) => no_document(alloc, text, &error, fault),
+    match Config::of_document(alloc, document) {
+        Ok(config) => Ok(Ok(config)),
+        Err(fault) => match fault {
+            ConfigFault::NoMemory => Err(NoMemory),
+            _ => Ok(Err(errors_in(alloc, text, document, fault)?)),
+        },
     }
 }
 

@@ -59,7 +59,7 @@ fn flows_of(types: Types) -> &'static str {
 fn near_key(keys: Keys, table: &Table, key: &str) -> Option<&'static str> {
     for place in 0..keys.places() {
         if let Some((name, _)) = keys.at(place) {
-            let is_near = are_near(name.as_bytes(), key.as_bytes()) & table.get(name).is_none();
+            let is_near = are_near(name.as_bytes(), key.as_bytes()) && table.get(name).is_none();
             if is_near | name.eq_ignore_ascii_case(key) {
                 return Some(name);
             }

@@ -1,4 +1,5 @@
 ghost use Rattle.std.specs.Prelude.{◌≡◌, IfOk};
+ghost use Rattle.toml.specs.Errors.{IsMemory};
 ghost use Rattle.us_flows.specs.declared.faults.ConfigFault.TheVariants.{Text};
 ghost use Rattle.us_findings.specs.declared.findings.What.TheVariants as found;
 
@@ -14,15 +15,8 @@ use us_slots::NoMemory;
 pub fn too_long_config(alloc: Global) -> Result<Findings, NoMemory>
     ensures { IfOk result (λ findings. findings.first.what ≡ found.Config Text) }
 {
-    too_long(alloc, ConfigFault::Text)
-}
-
-/// The same, under this fault.
-pub(crate) fn too_long(alloc: Global, fault: ConfigFault) -> Result<Findings, NoMemory>
-    ensures { IfOk result (λ findings. findings.first.what ≡ found.Config fault) }
-{
     let text = format!(in alloc; "at most {MAX_CONFIG_BYTES} bytes are wanted, more are there")?;
-    Ok(alone(alloc, fault, (1, 1), text))
+    Ok(alone(alloc, ConfigFault::Text, (1, 1), text))
 }
 
 /// One error alone, at a line and a column.
@@ -43,14 +37,10 @@ pub(crate) fn alone(alloc: Global, fault: ConfigFault, at: (usize, usize), text:
     }
 }
 
-/// That a text is no document of TOML, as its reader says it, under this fault.
-pub(crate) fn no_document(
-    alloc: Global,
-    text: &[u8],
-    error: &Error,
-    fault: ConfigFault,
-) -> Result<Findings, NoMemory>
-    ensures { IfOk result (λ findings. findings.first.what ≡ found.Config fault) }
+/// That a text is no document of TOML, as its reader says it.
+pub(crate) fn no_document(alloc: Global, text: &[u8], error: &Error) -> Result<Findings, NoMemory>
+    ensures first { IfOk result (λ findings. findings.first.what ≡ found.Config Text) }
+    ensures none { IfOk result (λ _. ¬ IsMemory error.now) }
 {
     if error.is_memory() {
         return Err(NoMemory);
@@ -60,7 +50,7 @@ pub(crate) fn no_document(
         None => 0,
     };
     let why = why_none(alloc, text, at, error)?;
-    Ok(alone(alloc, fault, line_and_column(text, at), why))
+    Ok(alone(alloc, ConfigFault::Text, line_and_column(text, at), why))
 }
 
 /// Why it is none: for a byte that is no UTF-8, or as the reader says it.

@@ -40,9 +40,24 @@ impl Config {
             return Err(ConfigFault::Text);
         }
         match toml::table_from_slice(alloc, text) {
-            Ok(document) => config_of(alloc, &document),
+            Ok(document) => Config::of_document(alloc, &document),
             Err(error) => Err(fault_of(&error)),
         }
+    }
+
+    /// The configuration of a document, for those who have it: as [`Config::read`] of its text, however long that is. The
+    /// answer is its first fault, or the tables. A fault of the top level is answered before memory is taken.
+    pub fn of_document(alloc: Global, document: &Table) -> Result<Config, ConfigFault>
+        ensures judged { Judged result (first_fault (table_view document.now))
+            (λ config. config ≡ Reading.tables_of (table_view document.now)) }
+        ensures early { IfSome (first_of (top_checks (table_view document.now))) (λ fault. result ≡ Err fault) }
+    {
+        if let Some(fault) = top_fault(document) {
+            return Err(fault);
+        }
+        let round_ticks = u32_at(document, "round_ticks");
+        let channels = channels_of(alloc, round_ticks, items_at(document, "channel"))?;
+        config_on(alloc, document, round_ticks, channels)
     }
 }
 
@@ -56,21 +71,6 @@ fn fault_of(error: &toml::de::Error) -> ConfigFault
     } else {
         ConfigFault::Text
     }
-}
-
-/// The configuration of a document, or its first fault.
-fn config_of(alloc: Global, document: &Table) -> Result<Config, ConfigFault>
-    ensures judged { Judged result (first_fault (table_view document.now))
-        (λ config. config ≡ Reading.tables_of (table_view document.now)) }
-    // The top level is judged before memory is taken.
-    ensures early { IfSome (first_of (top_checks (table_view document.now))) (λ fault. result ≡ Err fault) }
-{
-    if let Some(fault) = top_fault(document) {
-        return Err(fault);
-    }
-    let round_ticks = u32_at(document, "round_ticks");
-    let channels = channels_of(alloc, round_ticks, items_at(document, "channel"))?;
-    config_on(alloc, document, round_ticks, channels)
 }
 
 /// The configuration on channels that have no fault, or its first fault.
