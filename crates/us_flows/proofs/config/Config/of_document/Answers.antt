@@ -4,7 +4,7 @@ use Rattle.toml.specs.View.{table_view}
 use Rattle.us_flows.specs.Checks.{first_fault}
 use Rattle.us_flows.proofs.JudgedLemmas.{carried}
 use Rattle.us_flows.proofs.TableLemmas.{round_fits, few_channels, top_judged, found_in_channels}
-use Rattle.us_flows.proofs.reading.Config.of_document.Goals as goal
+use Rattle.us_flows.proofs.config.Config.of_document.Goals as goal
 
 pub returns-in-Some-clause-judged : goal.returns-in-Some-clause-judged
 returns-in-Some-clause-judged c =
