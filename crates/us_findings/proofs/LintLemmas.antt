@@ -1,14 +1,6 @@
--- What reading a document answers, and what is found in the records of a text, as what a lint of it answers.
+-- What is found in the records of a text, as what a lint of it answers.
 use Rattle.std.proofs.Common.{◌≡◌, ℕ, ◌<◌, ◌≤◌, List, [], length, Option, Some, None, refl, ap, ◌∙◌, inl, inr}
 use Rattle.std.specs.Prelude.{option_map}
-use Rattle.std.specs.Prelude.{Result, Ok, Err}
-use Rattle.toml.specs.Data.{Members}
-use Rattle.us_flows.specs.declared.faults.ConfigFault.{ConfigFault}
-use Rattle.us_flows.specs.declared.faults.ConfigFault.TheVariants as config
-use Rattle.us_flows.specs.Tables.{Tables}
-use Rattle.us_flows.specs.Checks.{first_fault}
-use Rattle.us_flows.specs.Reading.{tables_of}
-use Rattle.us_flows.specs.Answers.{Answers, IsDocument, Judged}
 use Rattle.us_requests.specs.declared.faults.TraceFault.{TraceFault}
 use Rattle.us_requests.specs.declared.faults.TraceFault.TheVariants as fault
 use Rattle.us_requests.specs.Readings.{max_bytes}
@@ -20,25 +12,6 @@ use Rattle.us_findings.specs.declared.findings.What.TheVariants as what
 use Rattle.us_findings.specs.TraceErrors.{IsTraceLint}
 use Rattle.us_findings.specs.Found.{behind, first_what}
 use Rattle.us_findings.specs.Rows.{Reading}
-
--- what is answered of a document is what is answered of its text
-pub answered : (text : List ℕ) (doc : Members) (answer : Result Tables ConfigFault) → IsDocument text doc →
-    Judged answer (first_fault doc) (λ tables. tables ≡ tables_of doc) → Answers text answer
-answered text doc (Ok tables) is judged = (doc, is, judged.0, judged.1)
-answered text doc (Err config.NoMemory) is judged = judged
-answered text doc (Err config.Text) is judged = absurd judged
-answered text doc (Err (config.Missing p)) is judged = (doc, is, judged)
-answered text doc (Err (config.Range p)) is judged = (doc, is, judged)
-answered text doc (Err (config.UnknownChannel p)) is judged = (doc, is, judged)
-answered text doc (Err (config.DuplicateId p)) is judged = (doc, is, judged)
-answered text doc (Err (config.DuplicateSid p)) is judged = (doc, is, judged)
-answered text doc (Err (config.ClusterLength p)) is judged = (doc, is, judged)
-answered text doc (Err (config.RoundNotMultiple p)) is judged = (doc, is, judged)
-answered text doc (Err (config.ReservesTooLong p)) is judged = (doc, is, judged)
-answered text doc (Err (config.Jitter p)) is judged = (doc, is, judged)
-answered text doc (Err (config.GrantLongerThanMap p)) is judged = (doc, is, judged)
-answered text doc (Err (config.Headers p)) is judged = (doc, is, judged)
-answered text doc (Err (config.MinRate p)) is judged = (doc, is, judged)
 
 -- the first error of a text that is too long
 pub too-long : (text : List ℕ) (findings : Findings) → max_bytes < length text →
