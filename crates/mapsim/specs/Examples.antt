@@ -9,7 +9,7 @@ use Rattle.us_flows.specs.declared.faults.TableName.TheVariants as name
 use Rattle.us_flows.specs.declared.faults.ConfigFault.TheVariants as config
 use Rattle.us_requests.specs.declared.faults.TraceFault.TheVariants as trace
 use Rattle.us_check.specs.declared.faults.CheckFault.TheVariants as check
-use Rattle.us_check.specs.declared.rules.Rule.TheVariants as rule
+use Rattle.us_reports.specs.declared.rules.Rule.TheVariants as rule
 use Rattle.us_check.specs.declared.verdicts.Verdict.TheVariants as verdict
 use Rattle.us_replay.specs.declared.faults.RunFault.TheVariants as run
 use Rattle.mapsim.specs.declared.faults.Stream.TheVariants as stream

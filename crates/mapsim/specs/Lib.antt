@@ -1,5 +1,5 @@
--- Read in this order: what a fault prints and the status that it gives; the rule that a lint puts into words; the mark in
--- the input; MAPs as lines; what is printed of standard input.
+-- Read in this order: what a fault prints and the status that it gives; the mark in the input; MAPs as lines; what is
+-- printed of standard input.
 -- In a definition `≡` is equals, `×` and, `⊎` or, `¬` not, `++` one list behind another, `∷` one item before a list,
 -- and ℕ has the whole numbers from 0. `codes` has the bytes of a text, `decimal` those of a number.
 
@@ -9,8 +9,6 @@ pub mod Texts
 pub mod Lines
 -- exit statuses
 pub mod Statuses
--- what a verdict says to a lint
-pub mod BrokenRules
 -- the line between the configuration and the trace
 pub mod Marks
 -- the line of an element

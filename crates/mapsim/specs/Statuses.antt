@@ -1,6 +1,6 @@
 -- Exit statuses (ours): 0 done, 1 a rule is broken or something looks wrong, 2 usage, 3 what was read is refused or has an
 -- error, 4 a file or stream failed, 5 want of memory.
-use Rattle.std.specs.Prelude.{ℕ, zero, suc}
+use Rattle.std.specs.Prelude.{ℕ}
 use Rattle.us_codec.specs.declared.faults.MapFault.{MapFault}
 use Rattle.us_codec.specs.declared.faults.MapFault.TheVariants as map
 use Rattle.us_flows.specs.declared.faults.ConfigFault.{ConfigFault}
@@ -12,6 +12,8 @@ use Rattle.us_check.specs.declared.faults.CheckFault.TheVariants as check
 use Rattle.us_check.specs.declared.verdicts.Verdict.{Verdict}
 use Rattle.us_check.specs.declared.verdicts.Verdict.TheVariants as verdict
 use Rattle.us_replay.specs.declared.faults.RunFault.{RunFault}
+use Rattle.us_listing.specs.declared.worst.Worst.{Worst}
+use Rattle.us_listing.specs.declared.worst.Worst.TheVariants as worst
 use Rattle.us_replay.specs.declared.faults.RunFault.TheVariants as run
 use Rattle.mapsim.specs.declared.statuses.Status.{Status}
 use Rattle.mapsim.specs.declared.statuses.Status.TheVariants as status
@@ -68,7 +70,8 @@ abbrev pub verdict_status : Verdict → Status
 verdict_status verdict.Holds = status.Done
 verdict_status (verdict.Broken rule round channel place) = status.Broken
 
--- and so many warnings beside what was found before, which outweighs them if it is an error
-abbrev pub with_warnings : Status → ℕ → Status
-with_warnings status.Done (suc warnings) = status.Warned
-with_warnings found warnings = found
+-- and the worst that a lint finds
+abbrev pub lint_status : Worst → Status
+lint_status worst.Nothing = status.Done
+lint_status worst.Warning = status.Warned
+lint_status worst.Error = status.Refused

@@ -3,7 +3,7 @@ ghost use Rattle.us_flows.specs.Tables.{rounds_fit};
 ghost use Rattle.mapsim.specs.Statuses as statuses;
 
 use crate::faults::{Fault, Stream};
-use crate::files::{read_bytes, read_config};
+use crate::files::{read_config, read_output};
 use crate::opening::open;
 use crate::printing::print;
 use crate::statuses::Status;
@@ -62,9 +62,8 @@ fn judge<R: Files>(
 ) -> Result<Verdict, Fault>
     requires { rounds_fit config.now trace.now.rounds ≡ true }
 {
-    let maps = read_bytes(rt, alloc, order.maps, Stream::Maps)?;
-    let report = read_bytes(rt, alloc, order.report, Stream::Report)?;
-    Ok(check(alloc, config, trace, &maps, &report)?)
+    let output = read_output(rt, alloc, order.maps, order.report)?;
+    Ok(check(alloc, config, trace, &output.maps, &output.report)?)
 }
 
 /// The status with which a check ends that has this verdict.

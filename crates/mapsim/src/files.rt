@@ -1,5 +1,6 @@
 use crate::faults::{Fault, Stream};
 use crate::opening::open;
+use crate::texts::Texts;
 use std::alloc::Global;
 use std::rt::Files;
 use us_flows::{Config, ConfigFault, MAX_CONFIG_BYTES};
@@ -24,6 +25,19 @@ pub fn read_bytes<R: Files>(
         Some(bytes) => Ok(bytes),
         None => Err(Fault::NoMemory),
     }
+}
+
+/// The maps file and the report at these paths.
+pub fn read_output<R: Files>(
+    rt: &R,
+    alloc: Global,
+    maps: &str,
+    report: &str,
+) -> Result<Texts, Fault> {
+    Ok(Texts {
+        maps: read_bytes(rt, alloc, maps, Stream::Maps)?,
+        report: read_bytes(rt, alloc, report, Stream::Report)?,
+    })
 }
 
 /// The same of a file that has at most so many bytes; none of one that has more.

@@ -47,17 +47,8 @@ mod replaying;
 // From files to a verdict.
 mod checking;
 
-// What a lint prints.
-mod listings;
-
-// From files to what is wrong in them: the configuration,
+// From files to what is wrong in them.
 mod linting;
-
-// the trace,
-mod trace_linting;
-
-// and what a run wrote.
-mod verdict_linting;
 
 // From a maps file to standard output.
 mod dumping;

@@ -20,7 +20,7 @@ pub enum Status {
 }
 
 impl Status {
-    ghost use Rattle.mapsim.specs.Statuses.{code_of, with_warnings};
+    ghost use Rattle.mapsim.specs.Statuses.{code_of};
 
     /// The exit status.
     pub fn code(self) -> u8
@@ -33,16 +33,6 @@ impl Status {
             Status::Refused => 3,
             Status::DeviceFailed => 4,
             Status::NoMemory => 5,
-        }
-    }
-
-    /// That of a lint with so many more warnings: an error outweighs them.
-    pub fn warned(self, warnings: usize) -> Status
-        ensures { result ≡ with_warnings self warnings }
-    {
-        match self {
-            Status::Done if warnings > 0 => Status::Warned,
-            _ => self,
         }
     }
 }

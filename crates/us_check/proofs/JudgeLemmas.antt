@@ -30,8 +30,8 @@ use Rattle.us_map_rules.proofs.TableLemmas.{place_inside}
 use Rattle.us_map_rules.proofs.TakenLemmas.{answer_lacked}
 use Rattle.us_credit_rules.specs.CreditLines.{is_due, latest_behind}
 use Rattle.us_check.specs.declared.judges.Judge.{Judge}
-use Rattle.us_check.specs.declared.rules.Breach.{Breach}
-use Rattle.us_check.specs.declared.rules.Rule.TheVariants as rules
+use Rattle.us_reports.specs.declared.rules.Breach.{Breach}
+use Rattle.us_reports.specs.declared.rules.Rule.TheVariants as rules
 use Rattle.us_check.specs.Judges.{AllAreTold, AreTold, IsMapsBreach, broken}
 use Rattle.us_check.specs.Verdicts.{EarlierHold, Headings, Holds, HoldsAll, IsAnswer, IsPartBroken, Part, Places, Regions, order_of, parts, rule_of}
 use Rattle.us_check.proofs.VerdictLaws.{listed}

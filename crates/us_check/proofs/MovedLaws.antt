@@ -23,7 +23,7 @@ use Rattle.us_lawful.specs.Finals.{activities_hold, activity_holds, activity_of,
 use Rattle.us_lawful.proofs.RegionLemmas.{moved_holds}
 use Rattle.us_lawful.proofs.SameLemmas.{Same, same_all, same_any, same_append, same_count, same_filter, same_filter_map, same_map}
 use Rattle.us_reports.proofs.AnyLemmas.{any_each}
-use Rattle.us_check.specs.declared.rules.Breach.{Breach}
+use Rattle.us_reports.specs.declared.rules.Breach.{Breach}
 use Rattle.us_check.specs.Verdicts.{Activities, CalendarLines, Counts, Credits, Finals, Headings, Holds, HoldsAll, IsAnswer, IsPartBroken, Part, Places, Rates, Regions, order_of, parts, rule_of}
 
 length_sum : {X : Type 0} (xs : List X) → length xs ≡ sum_by (λ _. 1) xs

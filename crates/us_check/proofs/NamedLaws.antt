@@ -5,9 +5,9 @@ use Rattle.std.specs.List.{AllByRecursion}
 use Rattle.us_reports.specs.declared.place.Place.{Place}
 use Rattle.us_output.proofs.PartLemmas.{all_found}
 use Rattle.us_lawful.specs.Runs.{Run, Judged}
-use Rattle.us_check.specs.declared.rules.Breach.{Breach}
-use Rattle.us_check.specs.declared.rules.Rule.{Rule}
-use Rattle.us_check.specs.declared.rules.Rule.TheVariants as rule
+use Rattle.us_reports.specs.declared.rules.Breach.{Breach}
+use Rattle.us_reports.specs.declared.rules.Rule.{Rule}
+use Rattle.us_reports.specs.declared.rules.Rule.TheVariants as rule
 use Rattle.us_check.specs.Verdicts.{AreRead, HoldsAll, IsAnswer, IsBroken, IsPartBroken, Part, order_of, parts, rule_of}
 use Rattle.us_check.specs.Named.{IsFirstBroken, RuleHoldsBefore, VerdictsNameTheFirst, number_of}
 use Rattle.us_check.proofs.VerdictLaws.{breach_of, broken_part, by_either, listed, reached}

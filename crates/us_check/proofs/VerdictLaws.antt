@@ -15,9 +15,9 @@ use Rattle.us_reports.specs.Order.{goes_before}
 use Rattle.us_reports.proofs.AnyLemmas.{any_where}
 use Rattle.us_reports.proofs.OrderLemmas.{before-equal}
 use Rattle.us_map_rules.specs.MapsReading.{IsMapsOf, IsFirstBadRecord, OneReadingOfMaps}
-use Rattle.us_check.specs.declared.rules.Breach.{Breach}
-use Rattle.us_check.specs.declared.rules.Rule.{Rule}
-use Rattle.us_check.specs.declared.rules.Rule.TheVariants as rules
+use Rattle.us_reports.specs.declared.rules.Breach.{Breach}
+use Rattle.us_reports.specs.declared.rules.Rule.{Rule}
+use Rattle.us_reports.specs.declared.rules.Rule.TheVariants as rules
 use Rattle.us_check.specs.declared.verdicts.Verdict.{Verdict}
 use Rattle.us_check.specs.declared.verdicts.Verdict.TheVariants as verdicts
 use Rattle.us_check.specs.declared.faults.CheckFault.{CheckFault}

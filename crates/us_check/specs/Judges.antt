@@ -19,8 +19,8 @@ use Rattle.us_map_rules.specs.Told as calendar
 use Rattle.us_credit_rules.specs.CreditLines as credits
 use Rattle.us_check.specs.declared.judges.Judge.{Judge}
 use Rattle.us_check.specs.declared.judging.Standing.{Standing}
-use Rattle.us_check.specs.declared.rules.Breach.{Breach}
-use Rattle.us_check.specs.declared.rules.Rule.{Rule}
+use Rattle.us_reports.specs.declared.rules.Breach.{Breach}
+use Rattle.us_reports.specs.declared.rules.Rule.{Rule}
 use Rattle.us_check.specs.declared.faults.CheckFault.{CheckFault}
 use Rattle.us_check.specs.declared.faults.CheckFault.TheVariants as fault
 use Rattle.us_check.specs.Verdicts.{IsBroken}

@@ -4,8 +4,8 @@ use Rattle.std.specs.Prelude.{◌≡◌, ◌≢◌, ℕ, ◌<◌, true, List, Ok
 use Rattle.us_reports.specs.declared.place.Place.{Place}
 use Rattle.us_lawful.specs.Runs.{Run, Judged}
 use Rattle.us_reports.specs.Order.{goes_before}
-use Rattle.us_check.specs.declared.rules.Rule.{Rule}
-use Rattle.us_check.specs.declared.rules.Rule.TheVariants as rules
+use Rattle.us_reports.specs.declared.rules.Rule.{Rule}
+use Rattle.us_reports.specs.declared.rules.Rule.TheVariants as rules
 use Rattle.us_check.specs.declared.verdicts.Verdict.TheVariants as verdicts
 use Rattle.us_check.specs.Verdicts.{Answers, AreRead, EarlierHold, Holds, HoldsAll, Part, rule_of}
 

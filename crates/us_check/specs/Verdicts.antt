@@ -15,23 +15,15 @@ use Rattle.us_lawful.specs.Finals.{finals_hold, activities_hold, counts_hold}
 use Rattle.us_lawful.specs.Texts.{AreLawful}
 use Rattle.us_reports.specs.Reports.{IsReport, IsFirstBad}
 use Rattle.us_reports.specs.Breaches.{Any, IsFirstBreach}
+use Rattle.us_reports.specs.Rules.{code_of}
 use Rattle.us_map_rules.specs.MapsReading.{IsMapsOf, IsFirstBadRecord}
-use Rattle.us_check.specs.declared.rules.Breach.{Breach}
-use Rattle.us_check.specs.declared.rules.Rule.{Rule}
-use Rattle.us_check.specs.declared.rules.Rule.TheVariants as rules
+use Rattle.us_reports.specs.declared.rules.Breach.{Breach}
+use Rattle.us_reports.specs.declared.rules.Rule.{Rule}
+use Rattle.us_reports.specs.declared.rules.Rule.TheVariants as rules
 use Rattle.us_check.specs.declared.verdicts.Verdict.{Verdict}
 use Rattle.us_check.specs.declared.verdicts.Verdict.TheVariants as verdicts
 use Rattle.us_check.specs.declared.faults.CheckFault.{CheckFault}
 use Rattle.us_check.specs.declared.faults.CheckFault.TheVariants as fault
-
--- the code of a rule
-abbrev pub code_of : Rule → List ℕ
-code_of rules.Records = codes "P1"
-code_of rules.Headings = codes "P2"
-code_of rules.Minislots = codes "P3"
-code_of rules.Occurrences = codes "P4"
-code_of rules.Rates = codes "P5"
-code_of rules.Credits = codes "P6"
 
 -- What is judged of MAPs and lines that were read, part by part: the rule of minislots has two, that of credits four.
 pub data Part : Type 0 where
@@ -132,3 +124,9 @@ verdict_text verdicts.Holds = codes "holds"
 verdict_text (verdicts.Broken rule round channel place) =
     codes "broken " ++ code_of rule ++ codes " " ++ decimal round ++ codes " " ++ decimal channel ++ codes " "
     ++ decimal place
+
+-- the rule that it names, and where
+abbrev pub breach_of : Verdict → Option Breach
+breach_of verdicts.Holds = None
+breach_of (verdicts.Broken rule round channel place) =
+    Some (record { rule = rule; place = record { round = round; channel = channel; third = place } })

@@ -7,12 +7,11 @@ ghost use Rattle.us_check.specs.Judges.{IsMapsBreach};
 use crate::faults::CheckFault;
 use crate::judges::broken;
 use crate::judging::{lines_breach, read_lines};
-use crate::rules::{Breach, Rule};
 use crate::verdicts::Verdict;
 use std::alloc::Global;
 use us_flows::Config;
 use us_map_rules::headings_breach;
-use us_reports::Place;
+use us_reports::{Breach, Place, Rule};
 use us_requests::Trace;
 
 /// Judges a maps file and a report, whoever made them, against the tables of a configuration and the requests of a

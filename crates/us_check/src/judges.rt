@@ -9,14 +9,13 @@ ghost use Rattle.us_map_rules.specs.RegionLines.{comes_next, number_behind, plac
 ghost use Rattle.us_check.specs.Judges as spec;
 ghost use Rattle.us_check.specs.Verdicts.{IsAnswer};
 
-use crate::rules::{Breach, Rule};
 use std::alloc::Global;
 use us_credit_rules::{
     CreditLines, activities_breach, counts_breach, credits_breach, finals_breach, rates_breach,
 };
 use us_flows::Config;
 use us_map_rules::{CalendarLines, MapRegions, Taken};
-use us_reports::{Place, earlier};
+use us_reports::{Breach, Place, Rule, earlier};
 use us_requests::Trace;
 use us_round::Row;
 use us_slots::NoMemory;

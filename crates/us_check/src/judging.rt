@@ -12,11 +12,10 @@ ghost use Rattle.us_check.specs.Verdicts.{IsAnswer};
 
 use crate::faults::CheckFault;
 use crate::judges::Judge;
-use crate::rules::Breach;
 use std::alloc::Global;
 use us_flows::Config;
 use us_map_rules::map_of;
-use us_reports::{LineReader, line_at, lines_end};
+use us_reports::{Breach, LineReader, line_at, lines_end};
 use us_requests::Trace;
 use us_slots::NoMemory;
 

@@ -11,9 +11,6 @@
 //! another: those of MAPs and calendars stand in `us_map_rules`, those of credits in `us_credit_rules`.
 #![tactic(auto)]
 
-// The rules, and where one is broken.
-mod rules;
-
 // What is answered of two texts.
 mod verdicts;
 
@@ -38,7 +35,7 @@ pub use laws::{
     lawful_texts_hold, long_credits_fail, long_grants_pass_maps, one_answer,
     verdicts_name_the_first,
 };
-pub use rules::Rule;
+pub use us_reports::Rule;
 pub use verdicts::Verdict;
 
 #[cfg(test)]

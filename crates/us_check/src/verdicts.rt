@@ -1,5 +1,5 @@
-use crate::rules::{Breach, Rule};
 use std::fmt;
+use us_reports::{Breach, Place, Rule};
 
 /// What is answered of a maps file and a report.
 #[derive(Clone, Copy, Debug, PartialEq, Eq)]
@@ -20,6 +20,33 @@ pub enum Verdict {
         /// name (P4, P5, P6); 0 of a line whose round or channel the run lacks (P3), and of the U line (P6).
         place: u64,
     },
+}
+
+impl Verdict {
+    ghost use Rattle.std.specs.Prelude.{◌≡◌};
+    ghost use Rattle.us_check.specs.Verdicts.{breach_of};
+
+    /// The rule that is broken, and where; none where both are lawful.
+    pub fn breach(self) -> Option<Breach>
+        ensures { result ≡ breach_of self }
+    {
+        match self {
+            Verdict::Holds => None,
+            Verdict::Broken {
+                rule,
+                round,
+                channel,
+                place,
+            } => Some(Breach {
+                rule,
+                place: Place {
+                    round,
+                    channel,
+                    third: place,
+                },
+            }),
+        }
+    }
 }
 
 /// The verdict as it is printed: `holds`, or `broken`, the rule's code and the three numbers.

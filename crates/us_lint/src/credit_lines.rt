@@ -1,4 +1,3 @@
-use crate::broken::BrokenRule;
 use crate::findings::VerdictFile;
 use crate::lengths::{channel_with, flow_with};
 use crate::lines::{Which, lines_of};
@@ -7,6 +6,7 @@ use crate::said::{Said, first_other, place_of};
 use crate::told::{Told, told_by};
 use us_flows::{Channel, Flow};
 use us_output::Row;
+use us_reports::Place;
 use us_slots::{MAX_BURST_BYTES, grant_cost};
 
 /// The bytes of a segment header (the standard's).
@@ -17,21 +17,21 @@ pub(crate) fn credit_line_said(
     flows: &[Flow],
     channels: &[Channel],
     rows: &[Row],
-    broken: BrokenRule,
+    at: Place,
 ) -> Said {
-    let which = Which::Request(broken, 0, u64::MAX);
+    let which = Which::Request(at, 0, u64::MAX);
     for (place, row) in rows.iter().enumerate() {
         let line = told_by(row);
         if which.has(line) {
             if let Some(wrong) = wrong_with(flows, channels, line) {
-                return Said::at(VerdictFile::at(place), place_of(broken), wrong);
+                return Said::at(VerdictFile::at(place), place_of(at), wrong);
             }
         }
     }
-    let first = lines_of(rows, Which::Request(broken, 0, 0));
-    let others = lines_of(rows, Which::Request(broken, 1, u64::MAX));
+    let first = lines_of(rows, Which::Request(at, 0, 0));
+    let others = lines_of(rows, Which::Request(at, 1, u64::MAX));
     let double = if first.count < 2 { others } else { first };
-    Said::count(1, double, place_of(broken))
+    Said::count(1, double, place_of(at))
 }
 
 /// What is wrong with a grant of a request, by itself.

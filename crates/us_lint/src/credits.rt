@@ -1,4 +1,3 @@
-use crate::broken::BrokenRule;
 use crate::calendars::saturated;
 use crate::findings::VerdictFile;
 use crate::lengths::{Lengths, flow_with};
@@ -11,6 +10,7 @@ use std::alloc::{AllocError, Global};
 use us_bucket::UNITS_PER_BYTE;
 use us_flows::Flow;
 use us_output::Row;
+use us_reports::Place;
 use us_requests::Trace;
 use us_slots::NoMemory;
 
@@ -134,35 +134,30 @@ pub(crate) fn rate_said(
     flows: &[Flow],
     lengths: Lengths,
     rows: &[Row],
-    broken: BrokenRule,
+    at: Place,
 ) -> Result<Said, NoMemory> {
-    let place = Phrase::new(Text::Flow, [broken.round, broken.place, 0, 0]);
-    let Some(flow) = flow_with(flows, broken.place) else {
+    let place = Phrase::new(Text::Flow, [at.round, at.third, 0, 0]);
+    let Some(flow) = flow_with(flows, at.third) else {
         let none = Phrase::wanted(Name::Flows, 1, 0);
         return Ok(Said::at(VerdictFile::Report, place, none));
     };
-    let level = level_before(alloc, rows, flow, lengths.round_ticks, broken.round)?;
-    let most = level.units_in(broken.round) / UNITS_PER_BYTE as u128;
-    let credits = credits_of(rows, flow, ALL, broken.round);
+    let level = level_before(alloc, rows, flow, lengths.round_ticks, at.round)?;
+    let most = level.units_in(at.round) / UNITS_PER_BYTE as u128;
+    let credits = credits_of(rows, flow, ALL, at.round);
     Ok(credits.said(place, Phrase::of(Text::Bucket, saturated(most))))
 }
 
 /// That a cluster is credited more in a round than is outstanding.
-pub(crate) fn outstanding_said(
-    flows: &[Flow],
-    trace: &Trace,
-    rows: &[Row],
-    broken: BrokenRule,
-) -> Said {
-    if let Some(flow) = flow_with(flows, broken.place) {
-        let first = first_word(flows, broken.place);
+pub(crate) fn outstanding_said(flows: &[Flow], trace: &Trace, rows: &[Row], at: Place) -> Said {
+    if let Some(flow) = flow_with(flows, at.third) {
+        let first = first_word(flows, at.third);
         for cluster in 0..flow.clusters().len() as u64 {
-            let credits = credits_of(rows, flow, [cluster, cluster], broken.round);
+            let credits = credits_of(rows, flow, [cluster, cluster], at.round);
             let word = first.saturating_add(cluster);
-            let asked = asked_within(trace, word, broken.round.saturating_add(1));
+            let asked = asked_within(trace, word, at.round.saturating_add(1));
             let most = asked.saturating_sub(credits.before);
             if most < credits.inside {
-                let place = Phrase::new(Text::Cluster, [broken.round, broken.place, cluster, 0]);
+                let place = Phrase::new(Text::Cluster, [at.round, at.third, cluster, 0]);
                 return credits.said(place, Phrase::of(Text::Left, most));
             }
         }
@@ -170,7 +165,7 @@ pub(crate) fn outstanding_said(
     // Nobody comes here: some cluster is credited too much, or the verdict is another.
     Said::at(
         VerdictFile::Report,
-        place_of(broken),
+        place_of(at),
         Phrase::wanted(Name::Flows, 1, 0),
     )
 }

@@ -9,12 +9,12 @@
 //! seen.warn(&mut warnings);
 //! let findings = warnings.located(config_text)?;
 //!
-//! let finding = verdict_finding(alloc, &config, &trace, maps, report, broken)?;
+//! let finding = verdict_finding(alloc, &config, &trace, maps, report, breach)?;
 //! println!(rt; "{finding}"); // P6: round 1, channel 1, id 1: slots of the credit: 29 is wanted, 32 is there
 //! ```
 //!
-//! The words of a broken rule are told which it is and where, by the numbers of a verdict. They look again at that place
-//! alone, and name what they find there. What these words mean stands in `specs/`, in the order of its `Lib.antt`.
+//! The words of a broken rule are told which it is and where, by a verdict. They look again at that place alone, and name what
+//! they find there. What these words mean stands in `specs/`, in the order of its `Lib.antt`.
 #![tactic(auto)]
 
 // What warnings call flows, stations and channels.
@@ -71,9 +71,6 @@ mod tick_warnings;
 // What looks wrong in a trace.
 mod traces;
 
-// Rules, and where one is broken.
-mod broken;
-
 // What is answered of one.
 mod findings;
 
@@ -112,7 +109,6 @@ mod last_lines;
 // All words of a broken rule.
 mod verdicts;
 
-pub use broken::{BrokenRule, Rule};
 pub use empty_maps::EmptyMaps;
 pub use findings::{VerdictFile, VerdictFinding};
 pub use traces::SeenRows;

@@ -1,8 +1,8 @@
-use crate::broken::BrokenRule;
 use crate::findings::VerdictFile;
 use crate::phrases::{Phrase, Text};
 use crate::told::{NO_LINE, REQUESTED, Told, Topic, told_by};
 use us_output::Row;
+use us_reports::Place;
 
 /// How many lines are named by their numbers.
 const MAX_NAMED: usize = 5;
@@ -89,9 +89,9 @@ pub(crate) enum Which {
     /// Those of a round and a channel.
     Map(u64, u64),
     /// Those of calendars that are at the place of a verdict,
-    Calendar(BrokenRule),
+    Calendar(Place),
     /// and those of requests there, from this cluster up to that one.
-    Request(BrokenRule, u64, u64),
+    Request(Place, u64, u64),
     /// The grants of requests of a flow, of such clusters.
     Requests(u64, u64, u64),
     /// Those that name this occurrence.
@@ -107,12 +107,12 @@ impl Which {
             Which::Map(round, channel) => {
                 line.topic.is_of_map() & (line.round == round) & (line.channel == channel)
             }
-            Which::Calendar(broken) => {
-                line.topic.is_of_map() & (line.topic != REQUESTED) & line.is_at(broken)
+            Which::Calendar(at) => {
+                line.topic.is_of_map() & (line.topic != REQUESTED) & line.is_at(at)
             }
-            Which::Request(broken, least, most) => {
+            Which::Request(at, least, most) => {
                 let is_of = line.is_grant & (line.topic == REQUESTED);
-                is_of & line.is_at(broken) & (least <= line.i) & (line.i <= most)
+                is_of & line.is_at(at) & (least <= line.i) & (line.i <= most)
             }
             Which::Requests(id, least, most) => {
                 let is_of = line.is_grant & (line.topic == REQUESTED);

@@ -1,4 +1,3 @@
-use crate::broken::BrokenRule;
 use crate::calendars::REQUEST;
 use crate::findings::VerdictFile;
 use crate::lengths::Lengths;
@@ -10,6 +9,7 @@ use crate::told::{Told, told_by};
 use std::alloc::Global;
 use us_flows::Channel;
 use us_output::Row;
+use us_reports::Place;
 use us_slots::NoMemory;
 
 /// The SID that addresses all modems (the standard's).
@@ -39,31 +39,29 @@ pub(crate) fn minislot_said(
     lengths: Lengths,
     maps: &[u8],
     rows: &[Row],
-    broken: BrokenRule,
+    at: Place,
 ) -> Result<Said, NoMemory> {
-    let lacked = match placed(channels, lengths, broken) {
-        Some(map) if broken.round < lengths.rounds => {
-            return minislot_of(alloc, maps, rows, broken, map);
+    let lacked = match placed(channels, lengths, at) {
+        Some(map) if at.round < lengths.rounds => {
+            return minislot_of(alloc, maps, rows, at, map);
         }
         Some(_) => {
             let last = lengths.rounds.saturating_sub(1);
-            Phrase::between(Name::RoundOfRun, 0, last, broken.round)
+            Phrase::between(Name::RoundOfRun, 0, last, at.round)
         }
         None => Phrase::wanted(Name::Channels, 1, 0),
     };
-    let lines = lines_of(rows, Which::Map(broken.round, broken.channel));
-    Ok(Said::at(lines.file(), map_of(broken), lacked))
+    let lines = lines_of(rows, Which::Map(at.round, at.channel));
+    Ok(Said::at(lines.file(), map_of(at), lacked))
 }
 
 /// The MAP of a verdict, if there is its channel.
-fn placed(channels: &[Channel], lengths: Lengths, broken: BrokenRule) -> Option<PlacedMap> {
-    let before = broken.round.saturating_mul(channels.len() as u64);
+fn placed(channels: &[Channel], lengths: Lengths, at: Place) -> Option<PlacedMap> {
+    let before = at.round.saturating_mul(channels.len() as u64);
     for (place, channel) in channels.iter().enumerate() {
-        if channel.id as u64 == broken.channel {
+        if channel.id as u64 == at.channel {
             let len = lengths.map_len(channel);
-            let has_first = broken
-                .round
-                .is_multiple_of(channel.maintenance_every as u64);
+            let has_first = at.round.is_multiple_of(channel.maintenance_every as u64);
             let first = if has_first {
                 channel.maintenance_minislots
             } else {
@@ -82,8 +80,8 @@ fn placed(channels: &[Channel], lengths: Lengths, broken: BrokenRule) -> Option<
 }
 
 /// The place of a verdict's MAP.
-fn map_of(broken: BrokenRule) -> Phrase {
-    Phrase::new(Text::Map, [broken.round, broken.channel, 0, 0])
+fn map_of(at: Place) -> Phrase {
+    Phrase::new(Text::Map, [at.round, at.channel, 0, 0])
 }
 
 /// That a minislot of a MAP isn't what it must be: what lines grant, what is wanted, and what the MAP has.
@@ -91,18 +89,18 @@ fn minislot_of(
     alloc: Global,
     maps: &[u8],
     rows: &[Row],
-    broken: BrokenRule,
+    at: Place,
     map: PlacedMap,
 ) -> Result<Said, NoMemory> {
-    let record = record_at(alloc, maps, map.record, broken.place)?;
-    let granted = granted_in(rows, broken, map);
+    let record = record_at(alloc, maps, map.record, at.third)?;
+    let granted = granted_in(rows, at, map);
     let lines = granted.lines;
     let (file, place) = match lines.count {
         0 => (VerdictFile::Maps, record.place),
-        _ => (lines.file(), map_of(broken)),
+        _ => (lines.file(), map_of(at)),
     };
-    let which = Phrase::new(Text::Minislot, [broken.place, map.len, 0, 0]);
-    let wanted = wanted_at(map, broken.place, granted);
+    let which = Phrase::new(Text::Minislot, [at.third, map.len, 0, 0]);
+    let wanted = wanted_at(map, at.third, granted);
     let behind = [granted.span, wanted, record.element];
     Ok(Said::of_lines(file, place, which, lines, behind))
 }
@@ -120,22 +118,22 @@ struct Granted {
 }
 
 /// What lines grant of the MAP of a verdict, about its minislot.
-fn granted_in(rows: &[Row], broken: BrokenRule, map: PlacedMap) -> Granted {
+fn granted_in(rows: &[Row], at: Place, map: PlacedMap) -> Granted {
     let mut lines = Lines::none();
     let mut span = NOTHING;
     let (mut from, mut to) = (map.first, map.last);
     for (place, row) in rows.iter().enumerate() {
         let line = told_by(row);
-        let is_of = (line.round == broken.round) & (line.channel == broken.channel);
+        let is_of = (line.round == at.round) & (line.channel == at.channel);
         if line.is_grant & is_of {
-            if is_about(line, broken.place, map.len) {
+            if is_about(line, at.third, map.len) {
                 if lines.count == 0 {
                     let numbers = [line.start, line.slots, line.sid, line.iuc];
                     span = Phrase::new(Text::LineSpan, numbers);
                 }
                 lines.add(place);
             }
-            if (line.slots > 0) & (line.start <= broken.place) {
+            if (line.slots > 0) & (line.start <= at.third) {
                 from = from.max(line.start.saturating_add(line.slots));
             } else if line.slots > 0 {
                 to = to.min(line.start);

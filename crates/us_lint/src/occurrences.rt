@@ -1,4 +1,3 @@
-use crate::broken::BrokenRule;
 use crate::calendars::{Entries, Interval, PlacedEntry};
 use crate::findings::VerdictFile;
 use crate::lengths::Lengths;
@@ -9,6 +8,7 @@ use crate::told::{Told, told_by};
 use std::alloc::{AllocError, Global};
 use us_activity::Activities;
 use us_output::Row;
+use us_reports::Place;
 use us_slots::NoMemory;
 
 /// That a line of a calendar is wrong, or that an occurrence hasn't just one line: the first one that closes in the round, or
@@ -19,15 +19,15 @@ pub(crate) fn occurrence_said(
     activities: &Activities,
     lengths: Lengths,
     rows: &[Row],
-    broken: BrokenRule,
+    at: Place,
 ) -> Result<Said, NoMemory> {
-    if let Some(said) = wrong_line(entries, activities, lengths, rows, broken) {
+    if let Some(said) = wrong_line(entries, activities, lengths, rows, at) {
         return Ok(said);
     }
-    let first = lines_of(rows, Which::Calendar(broken)).first(rows);
-    let mut unsettled = unsettled_of(alloc, entries.flow, activities, lengths, rows, broken)?;
+    let first = lines_of(rows, Which::Calendar(at)).first(rows);
+    let mut unsettled = unsettled_of(alloc, entries.flow, activities, lengths, rows, at)?;
     if unsettled.is_none() {
-        unsettled = unsettled_of(alloc, entries.station, activities, lengths, rows, broken)?;
+        unsettled = unsettled_of(alloc, entries.station, activities, lengths, rows, at)?;
     }
     let of = unsettled.unwrap_or(Occurrence {
         topic: first.topic,
@@ -39,12 +39,7 @@ pub(crate) fn occurrence_said(
     let before = Phrase::new(Text::Occurrence, [of.i, of.k, 0, 0]);
     let ends = [interval.first, interval.last.saturating_add(1), 0, 0];
     let lines = lines_of(rows, Which::Occurrence(of));
-    Ok(Said::at_lines(
-        place_of(broken),
-        before,
-        lines,
-        Phrase::new(Text::Starts, ends),
-    ))
+    Ok(Said::at_lines(place_of(at), before, lines, Phrase::new(Text::Starts, ends)))
 }
 
 /// What is said of the first line at a verdict's place that is wrong by itself.
@@ -53,15 +48,15 @@ fn wrong_line(
     activities: &Activities,
     lengths: Lengths,
     rows: &[Row],
-    broken: BrokenRule,
+    at: Place,
 ) -> Option<Said> {
     for (place, row) in rows.iter().enumerate() {
         let line = told_by(row);
-        if Which::Calendar(broken).has(line) {
+        if Which::Calendar(at).has(line) {
             let of = entries.named(line.topic);
             let interval = of.interval(activities, lengths, line.i);
             if let Some(wrong) = wrong_with(of, interval, line) {
-                return Some(Said::at(VerdictFile::at(place), place_of(broken), wrong));
+                return Some(Said::at(VerdictFile::at(place), place_of(at), wrong));
             }
         }
     }
@@ -133,14 +128,14 @@ struct Closing {
 
 impl Closing {
     /// Those of an entry, if it is on the channel of a verdict.
-    fn of(entry: PlacedEntry, lengths: Lengths, broken: BrokenRule) -> Closing {
-        let first = entry.first_interval(lengths, broken.round);
-        let behind = entry.first_interval(lengths, broken.round.saturating_add(1));
+    fn of(entry: PlacedEntry, lengths: Lengths, at: Place) -> Closing {
+        let first = entry.first_interval(lengths, at.round);
+        let behind = entry.first_interval(lengths, at.round.saturating_add(1));
         let count = behind.saturating_sub(first).saturating_mul(entry.grants);
         Closing {
             entry,
             first,
-            count: if entry.channel == broken.channel {
+            count: if entry.channel == at.channel {
                 count
             } else {
                 0
@@ -171,12 +166,12 @@ fn unsettled_of(
     activities: &Activities,
     lengths: Lengths,
     rows: &[Row],
-    broken: BrokenRule,
+    at: Place,
 ) -> Result<Option<Occurrence>, AllocError> {
-    let closing = Closing::of(entry, lengths, broken);
+    let closing = Closing::of(entry, lengths, at);
     let mut counts = vec![in alloc; 0_u8; closing.count as usize]?;
-    count_lines(&mut counts, closing, rows, broken.place);
-    Ok(first_wrong(&counts, closing, activities, lengths, broken.place))
+    count_lines(&mut counts, closing, rows, at.third);
+    Ok(first_wrong(&counts, closing, activities, lengths, at.third))
 }
 
 /// Counts the lines of an id that name these occurrences.

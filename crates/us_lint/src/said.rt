@@ -1,9 +1,9 @@
-use crate::broken::BrokenRule;
 use crate::findings::VerdictFile;
 use crate::lines::Lines;
 use crate::phrases::{NOTHING, Name, Phrase, Text};
 use std::fmt;
 use us_codec::MapFault;
+use us_reports::Place;
 
 /// What is said of a broken rule: the file, the place, and what is wrong there: the fault of a record, or phrases that follow
 /// one another.
@@ -72,8 +72,8 @@ impl Said {
 }
 
 /// The round, the channel and the id of a verdict.
-pub(crate) fn place_of(broken: BrokenRule) -> Phrase {
-    Phrase::new(Text::Place, [broken.round, broken.channel, broken.place, 0])
+pub(crate) fn place_of(at: Place) -> Phrase {
+    Phrase::new(Text::Place, [at.round, at.channel, at.third, 0])
 }
 
 /// The first of some numbers that isn't between the least and the most that are wanted, these among them.

@@ -1,7 +1,6 @@
-use crate::broken::BrokenRule;
 use std::alloc::Global;
 use us_output::{EntryWord, FinalState, Grant, MissedOccurrence, Row};
-use us_reports::{ReportFault, report_rows};
+use us_reports::{Place, ReportFault, report_rows};
 use us_slots::NoMemory;
 
 /// What a line is about.
@@ -74,8 +73,8 @@ pub(crate) const NO_LINE: Told = Told {
 
 impl Told {
     /// Whether it is about the round, the channel and the id of a verdict.
-    pub(crate) fn is_at(self, broken: BrokenRule) -> bool {
-        (self.round == broken.round) & (self.channel == broken.channel) & (self.id == broken.place)
+    pub(crate) fn is_at(self, at: Place) -> bool {
+        (self.round == at.round) & (self.channel == at.channel) & (self.id == at.third)
     }
 }
 

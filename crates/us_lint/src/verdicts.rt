@@ -1,7 +1,6 @@
 ghost use Rattle.std.specs.Prelude.{◌≡◌, codes, IfOk};
-ghost use Rattle.us_lint.specs.Codes.{code_of};
+ghost use Rattle.us_reports.specs.Rules.{code_of};
 
-use crate::broken::{BrokenRule, Rule};
 use crate::calendars::entries_with;
 use crate::credit_lines::credit_line_said;
 use crate::credits::{outstanding_said, rate_said};
@@ -20,25 +19,26 @@ use us_activity::Activities;
 use us_findings::Shown;
 use us_flows::Config;
 use us_output::Row;
+use us_reports::{Breach, Rule};
 use us_requests::Trace;
 use us_slots::NoMemory;
 
-/// What a broken rule says, in words. The numbers are those of the verdict on these files.
+/// What a broken rule says, in words. It is that of the verdict on these files.
 pub fn verdict_finding(
     alloc: Global,
     config: &Config,
     trace: &Trace,
     maps: &[u8],
     report: &[u8],
-    broken: BrokenRule,
+    breach: Breach,
 ) -> Result<VerdictFinding, NoMemory>
-    ensures { IfOk result (λ finding. finding.code.now ≡ code_of broken.rule) }
+    ensures { IfOk result (λ finding. finding.code.now ≡ code_of breach.rule) }
 {
-    let said = said_of(alloc, config, trace, maps, report, broken)?;
+    let said = said_of(alloc, config, trace, maps, report, breach)?;
     let text = format!(in alloc; "{said}")?;
     Ok(VerdictFinding {
         file: said.file,
-        code: broken.rule.code(),
+        code: breach.rule.code(),
         text,
     })
 }
@@ -50,11 +50,11 @@ fn said_of(
     trace: &Trace,
     maps: &[u8],
     report: &[u8],
-    broken: BrokenRule,
+    breach: Breach,
 ) -> Result<Said, NoMemory> {
     let rows = rows_of(alloc, report)?;
     let activities = Activities::of(alloc, config, trace)?;
-    said_by(alloc, config, trace, &activities, maps, &rows, broken)
+    said_by(alloc, config, trace, &activities, maps, &rows, breach)
 }
 
 /// The same, by these rows of the report. Credits are lines of requests, or their sums, or last lines.
@@ -65,7 +65,7 @@ fn said_by(
     activities: &Activities,
     maps: &[u8],
     rows: &[Row],
-    broken: BrokenRule,
+    breach: Breach,
 ) -> Result<Said, NoMemory> {
     let (channels, flows) = (config.channels(), config.flows());
     let lengths = Lengths {
@@ -73,23 +73,22 @@ fn said_by(
         round_ticks: config.round_ticks() as u64,
         lead_ticks: config.lead_ticks() as u64,
     };
-    match broken.rule {
-        Rule::Records => record_said(alloc, maps, broken.place),
-        Rule::Headings => heading_said(alloc, channels, lengths, maps, broken.place),
-        Rule::Minislots => minislot_said(alloc, channels, lengths, maps, rows, broken),
+    let Breach { rule, place } = breach;
+    match rule {
+        Rule::Records => record_said(alloc, maps, place.third),
+        Rule::Headings => heading_said(alloc, channels, lengths, maps, place.third),
+        Rule::Minislots => minislot_said(alloc, channels, lengths, maps, rows, place),
         Rule::Occurrences => {
-            let entries = entries_with(alloc, config, lengths, broken.place)?;
-            occurrence_said(alloc, entries, activities, lengths, rows, broken)
+            let entries = entries_with(alloc, config, lengths, place.third)?;
+            occurrence_said(alloc, entries, activities, lengths, rows, place)
         }
-        Rule::Rates => rate_said(alloc, flows, lengths, rows, broken),
-        Rule::Credits if broken.channel != 0 => {
-            Ok(credit_line_said(flows, channels, rows, broken))
-        }
-        Rule::Credits if broken.round < lengths.rounds => {
-            Ok(outstanding_said(flows, trace, rows, broken))
+        Rule::Rates => rate_said(alloc, flows, lengths, rows, place),
+        Rule::Credits if place.channel != 0 => Ok(credit_line_said(flows, channels, rows, place)),
+        Rule::Credits if place.round < lengths.rounds => {
+            Ok(outstanding_said(flows, trace, rows, place))
         }
         Rule::Credits => {
-            let id = broken.place;
+            let id = place.third;
             last_said(alloc, flows, trace, activities, lengths, rows, id)
         }
     }

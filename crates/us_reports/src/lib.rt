@@ -1,4 +1,4 @@
-//! Reports: reading one back, and the places of a run in their order, by which each rule of the checker is answered.
+//! Reports: reading one back; the rules of the checker, and the places of a run in their order, by which each is answered.
 //!
 //! ```
 //! let rows = report_rows(alloc, b"U,0,0,0\n")?; // one row: all requests of the trace were asks
@@ -27,8 +27,12 @@ mod laws;
 mod order;
 mod place;
 
+// The rules, and where one is broken.
+mod rules;
+
 pub use laws::one_reading;
 pub use order::{earlier, goes_before};
 pub use place::Place;
 pub use report_faults::ReportFault;
 pub use report_reading::{LineReader, line_at, lines_end, report_rows};
+pub use rules::{Breach, Rule};

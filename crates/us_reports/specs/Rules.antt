@@ -1,8 +1,9 @@
 -- The codes of the checker's rules.
-use Rattle.std.specs.Prelude.{ℕ, List, codes}
-use Rattle.us_lint.specs.declared.broken.Rule.{Rule}
-use Rattle.us_lint.specs.declared.broken.Rule.TheVariants as rules
+use Rattle.std.specs.Prelude.{List, ℕ, codes}
+use Rattle.us_reports.specs.declared.rules.Rule.{Rule}
+use Rattle.us_reports.specs.declared.rules.Rule.TheVariants as rules
 
+-- the code of a rule
 abbrev pub code_of : Rule → List ℕ
 code_of rules.Records = codes "P1"
 code_of rules.Headings = codes "P2"

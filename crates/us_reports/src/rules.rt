@@ -1,7 +1,7 @@
 ghost use Rattle.std.specs.Prelude.{◌≡◌};
-ghost use Rattle.us_check.specs.Verdicts as spec;
+ghost use Rattle.us_reports.specs.Rules.{code_of};
 
-use us_reports::Place;
+use crate::place::Place;
 
 /// A rule of the checker. They are looked at in this order.
 #[derive(Clone, Copy, Debug, PartialEq, Eq)]
@@ -26,7 +26,7 @@ pub enum Rule {
 impl Rule {
     /// Its code, P1 to P6.
     pub fn code(self) -> &'static str
-        ensures { result.now ≡ spec.code_of self }
+        ensures { result.now ≡ code_of self }
     {
         match self {
             Rule::Records => "P1",
@@ -39,9 +39,11 @@ impl Rule {
     }
 }
 
-/// Where a rule is broken first.
+/// A rule that is broken, and where it is first.
 #[derive(Clone, Copy)]
-pub(crate) struct Breach {
-    pub(crate) rule: Rule,
-    pub(crate) place: Place,
+pub struct Breach {
+    /// The rule.
+    pub rule: Rule,
+    /// The place.
+    pub place: Place,
 }
