@@ -12,7 +12,7 @@ use Rattle.us_check.specs.declared.faults.CheckFault.TheVariants as check
 use Rattle.us_reports.specs.declared.rules.Rule.TheVariants as rule
 use Rattle.us_check.specs.declared.verdicts.Verdict.TheVariants as verdict
 use Rattle.us_replay.specs.declared.faults.RunFault.TheVariants as run
-use Rattle.mapsim.specs.declared.faults.Stream.TheVariants as stream
+use Rattle.us_files.specs.declared.streams.Stream.TheVariants as stream
 use Rattle.mapsim.specs.declared.faults.Fault.{Fault}
 use Rattle.mapsim.specs.declared.faults.Fault.TheVariants as fault
 use Rattle.mapsim.specs.Lines.{fault_line}

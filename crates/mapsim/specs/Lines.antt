@@ -8,18 +8,10 @@ use Rattle.us_check.specs.Faults as check_faults
 use Rattle.us_check.specs.declared.faults.CheckFault.{CheckFault}
 use Rattle.us_check.specs.declared.faults.CheckFault.TheVariants as check
 use Rattle.us_fault_lines.specs.Lines.{config_line, io_line, line, memory_line, run_line}
-use Rattle.mapsim.specs.declared.faults.Stream.{Stream}
-use Rattle.mapsim.specs.declared.faults.Stream.TheVariants as stream
+use Rattle.us_files.specs.declared.streams.Stream.{Stream}
+use Rattle.us_files.specs.Streams.{stream_word}
 use Rattle.mapsim.specs.declared.faults.Fault.{Fault}
 use Rattle.mapsim.specs.declared.faults.Fault.TheVariants as fault
-
-abbrev pub stream_word : Stream → List ℕ
-stream_word stream.Config = codes "config"
-stream_word stream.Trace = codes "trace"
-stream_word stream.Maps = codes "maps"
-stream_word stream.Report = codes "report"
-stream_word stream.Input = codes "input"
-stream_word stream.Output = codes "output"
 
 -- of a stream that failed
 abbrev pub stream_line : Stream → List ℕ

@@ -2,15 +2,15 @@ ghost use Rattle.std.specs.Prelude.{◌≡◌, false, true, OnOk};
 ghost use Rattle.us_flows.specs.Tables.{rounds_fit};
 ghost use Rattle.mapsim.specs.Statuses as statuses;
 
-use crate::faults::{Fault, Stream};
-use crate::files::{read_config, read_output};
-use crate::opening::open;
+use crate::faults::Fault;
+use crate::files::read_config;
 use crate::printing::print;
 use crate::statuses::Status;
 use std::alloc::Global;
 use std::rt::Files;
 use us_check::{Verdict, check};
 use us_command_line::FileCheck;
+use us_files::{Stream, open, read_output};
 use us_flows::Config;
 use us_replay::RunFault;
 use us_requests::Trace;

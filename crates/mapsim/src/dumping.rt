@@ -1,10 +1,10 @@
 ghost use Rattle.std.specs.Prelude.{◌≡◌, false, OnOk};
 
 use crate::dumps::print_maps;
-use crate::faults::{Fault, Stream};
-use crate::files::read_bytes;
+use crate::faults::Fault;
 use std::alloc::Global;
 use std::rt::Files;
+use us_files::{Stream, read_bytes};
 use us_slots::Sink;
 
 /// Prints the lines of each MAP of the maps file at a path.

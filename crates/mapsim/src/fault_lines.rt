@@ -2,10 +2,10 @@ ghost use Rattle.std.specs.Prelude.{◌≡◌};
 ghost use Rattle.mapsim.specs.Lines;
 ghost use Rattle.us_fault_lines.specs.Lines.{line_text};
 
-use crate::faults::Stream;
 use us_check::CheckFault;
 use us_codec::MapFault;
 use us_fault_lines::{Line, MEMORY, Named};
+use us_files::Stream;
 
 /// The line of a fault of the MAP in the record with an index.
 pub fn map_line(fault: MapFault, index: usize) -> Line

@@ -8,27 +8,12 @@ use us_check::CheckFault;
 use us_codec::MapFault;
 use us_command_line::WordsFault;
 use us_fault_lines::{config_line, run_line};
+use us_files::{Stream, StreamFault};
 use us_flows::ConfigFault;
+use us_listing::LintFault;
 use us_replay::RunFault;
 use us_requests::TraceFault;
 use us_slots::NoMemory;
-
-/// A file or stream of the program.
-#[derive(Clone, Copy)]
-pub enum Stream {
-    /// The file of the configuration.
-    Config,
-    /// The file of the trace.
-    Trace,
-    /// The maps file.
-    Maps,
-    /// The file of the report.
-    Report,
-    /// Standard input.
-    Input,
-    /// Standard output.
-    Output,
-}
 
 /// What ends the program early.
 #[derive(Drop)]
@@ -49,24 +34,6 @@ pub enum Fault {
     Device(Stream),
     /// Want of memory.
     NoMemory,
-}
-
-impl Stream {
-    ghost use Rattle.mapsim.specs.Lines.{stream_word};
-
-    /// Its name in fault lines.
-    pub fn word(self) -> &'static str
-        ensures { result.now ≡ stream_word self }
-    {
-        match self {
-            Stream::Config => "config",
-            Stream::Trace => "trace",
-            Stream::Maps => "maps",
-            Stream::Report => "report",
-            Stream::Input => "input",
-            Stream::Output => "output",
-        }
-    }
 }
 
 impl Fault {
@@ -184,5 +151,24 @@ impl From<CheckFault> for Fault {
 
     fn from(fault: CheckFault) -> Fault {
         Fault::Check(fault)
+    }
+}
+
+impl From<StreamFault> for Fault {
+    fn from(fault: StreamFault) -> Fault {
+        match fault {
+            StreamFault::Failed(stream) => Fault::Device(stream),
+            StreamFault::NoMemory => Fault::NoMemory,
+        }
+    }
+}
+
+impl From<LintFault> for Fault {
+    fn from(fault: LintFault) -> Fault {
+        match fault {
+            LintFault::Rounds => Fault::Run(RunFault::Rounds),
+            LintFault::Failed(stream) => Fault::Device(stream),
+            LintFault::NoMemory => Fault::NoMemory,
+        }
     }
 }

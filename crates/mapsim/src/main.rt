@@ -29,13 +29,7 @@ mod map_lines;
 // and all MAPs of a maps file.
 mod dumps;
 
-// A maps file and a report in memory.
-mod texts;
-
-// Files at paths.
-mod opening;
-
-// Files that are read whole.
+// The configuration in a file.
 mod files;
 
 // Whether a replay would write over its own files.

@@ -2,14 +2,14 @@ ghost use Rattle.std.specs.Prelude.{◌≡◌, false, IfOk, IfSome, OnOk};
 ghost use Rattle.mapsim.specs.Printouts.{Gives, Prints, Replays};
 
 use crate::dumps::print_maps;
-use crate::faults::{Fault, Stream};
+use crate::faults::Fault;
 use crate::marks::split_at_mark;
 use crate::printing::print;
-use crate::texts::Texts;
 use std::alloc::Global;
 use std::sync::Wait;
 use std::thread::Threads;
 use us_crew::OpenGate;
+use us_files::{Stream, Texts};
 use us_flows::Config;
 use us_replay::{RunFault, replay};
 use us_slots::{FromRead, FromWrite, ReadFault, Sink, Source, read_all};

@@ -1,7 +1,8 @@
 ghost use Rattle.std.specs.Prelude.{◌≡◌, false, OnOk, is_err};
 ghost use Rattle.std.specs.Io.KnownBytes.{Appends};
 
-use crate::faults::{Fault, Stream};
+use crate::faults::Fault;
+use us_files::Stream;
 use us_slots::{Sink, write_all};
 
 /// Writes all of `text` to standard output.

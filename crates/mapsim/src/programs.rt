@@ -5,7 +5,7 @@ ghost use Rattle.us_command_line.specs.declared.orders.Order.{Order};
 
 use crate::checking::check_files;
 use crate::dumping::dump_file;
-use crate::faults::{Fault, Stream};
+use crate::faults::Fault;
 use crate::helps::HELP_TEXTS;
 use crate::linting::lint_files;
 use crate::piping::pipe;
@@ -18,6 +18,7 @@ use std::rt::Files;
 use std::sync::Wait;
 use std::thread::Threads;
 use us_command_line::{Helps, Order, order_of};
+use us_files::Stream;
 use us_slots::{Sink, Source};
 
 /// The program: it does what the words ask for (its name is the first), with `input` as its standard input and `output`

@@ -1,8 +1,7 @@
 ghost use Rattle.std.specs.Prelude.{◌≡◌, false, OnOk};
 
-use crate::faults::{Fault, Stream};
+use crate::faults::Fault;
 use crate::files::read_config;
-use crate::opening::{create, open};
 use crate::printing::print;
 use crate::same_files::refuse_same_files;
 use std::alloc::Global;
@@ -11,6 +10,7 @@ use std::sync::Wait;
 use std::thread::Threads;
 use us_command_line::FileReplay;
 use us_crew::OpenGate;
+use us_files::{Stream, create, open};
 use us_flows::Config;
 use us_replay::{Summary, check_run, replay};
 use us_slots::Sink;

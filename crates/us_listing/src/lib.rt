@@ -2,17 +2,11 @@
 //! are told, and the worst of it.
 //!
 //! ```
-//! let mut listing = Listing::new(alloc, order);
-//! if let Some(config) = listing.add_config(alloc, config_text)? {
-//!     if let Some(tables) = Tables::of(config_text, &config, order.rounds) {
-//!         listing.add_tables(alloc, &tables)?;
-//!     }
-//! }
+//! let listing = listing_of(rt, alloc, &order, &Checker)?;
 //! print!(rt; "{}", listing.text); // config.toml:12:1: warning: ..
 //! ```
 //!
-//! Who calls it reads the files, and asks for what is found in each. What these words mean stands in `specs/`, in the order
-//! of its `Lib.antt`; texts are tested.
+//! What the worst is stands in `specs/`; lines and their order are tested.
 #![tactic(auto)]
 
 // The worst that is found.
@@ -27,6 +21,18 @@ mod lines;
 // All lines.
 mod listings;
 
+// Who judges what a run wrote.
+mod judges;
+
+// Why nothing is listed.
+mod faults;
+
+// From files to lines.
+mod linting;
+
+pub use faults::LintFault;
+pub use judges::Judges;
+pub use linting::listing_of;
 pub use listings::Listing;
 pub use tables::Tables;
 pub use worst::Worst;
