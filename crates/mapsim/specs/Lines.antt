@@ -10,6 +10,11 @@ use Rattle.us_check.specs.declared.faults.CheckFault.TheVariants as check
 use Rattle.us_fault_lines.specs.Lines.{config_line, io_line, line, memory_line, run_line}
 use Rattle.us_files.specs.declared.streams.Stream.{Stream}
 use Rattle.us_files.specs.Streams.{stream_word}
+use Rattle.us_files.specs.declared.faults.StreamFault.{StreamFault}
+use Rattle.us_files.specs.declared.faults.StreamFault.TheVariants as stream_fault
+use Rattle.us_listing.specs.declared.faults.LintFault.{LintFault}
+use Rattle.us_listing.specs.declared.faults.LintFault.TheVariants as lint_fault
+use Rattle.us_replay.specs.declared.faults.RunFault.TheVariants as run
 use Rattle.mapsim.specs.declared.faults.Fault.{Fault}
 use Rattle.mapsim.specs.declared.faults.Fault.TheVariants as fault
 
@@ -38,3 +43,14 @@ fault_line (fault.Map f index) = map_line f index
 fault_line (fault.Check f) = check_line f
 fault_line (fault.Device stream) = stream_line stream
 fault_line fault.NoMemory = memory_line
+
+-- what a file that failed ends the program with,
+abbrev pub fault_of_stream : StreamFault → Fault
+fault_of_stream (stream_fault.Failed stream) = fault.Device stream
+fault_of_stream stream_fault.NoMemory = fault.NoMemory
+
+-- and a lint that lists nothing
+abbrev pub fault_of_lint : LintFault → Fault
+fault_of_lint lint_fault.Rounds = fault.Run run.Rounds
+fault_of_lint (lint_fault.Failed stream) = fault.Device stream
+fault_of_lint lint_fault.NoMemory = fault.NoMemory

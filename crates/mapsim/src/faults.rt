@@ -155,6 +155,10 @@ impl From<CheckFault> for Fault {
 }
 
 impl From<StreamFault> for Fault {
+    ghost use Rattle.mapsim.specs.Lines.{fault_of_stream};
+
+    ghost from_gives = { λ fault given. given ≡ fault_of_stream fault };
+
     fn from(fault: StreamFault) -> Fault {
         match fault {
             StreamFault::Failed(stream) => Fault::Device(stream),
@@ -164,6 +168,10 @@ impl From<StreamFault> for Fault {
 }
 
 impl From<LintFault> for Fault {
+    ghost use Rattle.mapsim.specs.Lines.{fault_of_lint};
+
+    ghost from_gives = { λ fault given. given ≡ fault_of_lint fault };
+
     fn from(fault: LintFault) -> Fault {
         match fault {
             LintFault::Rounds => Fault::Run(RunFault::Rounds),

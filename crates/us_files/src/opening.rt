@@ -1,4 +1,5 @@
-ghost use Rattle.std.specs.Prelude.{◌≡◌, false, IfOk};
+ghost use Rattle.std.specs.Prelude.{◌≡◌, false, IfErr, IfOk};
+ghost use Rattle.us_files.specs.Streams.{IsFaultOf};
 
 use crate::faults::StreamFault;
 use crate::streams::Stream;
@@ -10,6 +11,7 @@ use us_slots::{FromRead, FromWrite};
 /// Opens the program's file of this kind, to be read.
 pub fn open<R: Files>(rt: &R, path: &str, stream: Stream) -> Result<FromRead<R::File>, StreamFault>
     ensures ready { IfOk result (λ device. device.failed ≡ false) }
+    ensures fault { IfErr result (IsFaultOf stream) }
 {
     Ok(FromRead::new(opened(fs::open(rt, path), stream)?))
 }
@@ -21,12 +23,15 @@ pub fn create<R: Files>(
     stream: Stream,
 ) -> Result<FromWrite<R::File>, StreamFault>
     ensures ready { IfOk result (λ device. device.failed ≡ false) }
+    ensures fault { IfErr result (IsFaultOf stream) }
 {
     Ok(FromWrite::new(opened(fs::create(rt, path), stream)?))
 }
 
 /// A file that was opened or made, or the fault that says why not.
-fn opened<F>(answer: io::Result<F>, stream: Stream) -> Result<F, StreamFault> {
+fn opened<F>(answer: io::Result<F>, stream: Stream) -> Result<F, StreamFault>
+    ensures { IfErr result (IsFaultOf stream) }
+{
     match answer {
         Ok(file) => Ok(file),
         Err(error) if error.kind() == ErrorKind::OutOfMemory => Err(StreamFault::NoMemory),

@@ -1,3 +1,6 @@
+ghost use Rattle.std.specs.Prelude.{IfErr};
+ghost use Rattle.us_files.specs.Streams.{IsFaultOf};
+
 use crate::faults::StreamFault;
 use crate::opening::open;
 use crate::streams::Stream;
@@ -13,7 +16,9 @@ pub fn read_at_most<R: Files>(
     path: &str,
     stream: Stream,
     most: usize,
-) -> Result<Option<Vec<u8>>, StreamFault> {
+) -> Result<Option<Vec<u8>>, StreamFault>
+    ensures { IfErr result (IsFaultOf stream) }
+{
     match read_all(alloc, &mut open(rt, path, stream)?, most) {
         Ok(bytes) => Ok(Some(bytes)),
         Err(ReadFault::TooLarge) => Ok(None),
@@ -28,7 +33,9 @@ pub fn read_bytes<R: Files>(
     alloc: Global,
     path: &str,
     stream: Stream,
-) -> Result<Vec<u8>, StreamFault> {
+) -> Result<Vec<u8>, StreamFault>
+    ensures { IfErr result (IsFaultOf stream) }
+{
     match read_at_most(rt, alloc, path, stream, usize::MAX)? {
         Some(bytes) => Ok(bytes),
         None => Err(StreamFault::NoMemory),
